@@ -1,0 +1,6 @@
+pub mod Faults
+pub mod Reads
+pub mod Writes
+pub mod FolderState
+pub mod SinkState
+pub mod Files
