@@ -1,0 +1,4 @@
+pub mod Quotients
+pub mod Spelled
+pub mod Reduced
+pub mod Forms

@@ -1,0 +1,11 @@
+pub mod Fractions
+pub mod FractionLaws
+pub mod Numerals
+pub mod NumeralLaws
+pub mod FractionText
+pub mod FractionTextLaws
+pub mod Bounded
+pub mod Monoids
+pub mod MonoidLaws
+pub mod Sums
+pub mod SumLaws
