@@ -1,0 +1,5 @@
+pub mod Counts
+pub mod Places
+pub mod Filling
+pub mod Ranges
+pub mod Shown

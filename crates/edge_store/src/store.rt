@@ -1,0 +1,182 @@
+//! The store: its arrays, what callers see of them, and its calls.
+
+ghost use Rattle.std.specs.Prelude.{◌≡◌, ◌+◌, ◌<◌, ◌≤◌, ◌^◌, ◌↔◌, ℕ, length, slice_index, slice_index_or, slice_range, IfOk, All, AllPairs, map};
+ghost use Rattle.edge_store.specs.Edges.{sources_of, labels_of, targets_of, labels_from, targets_from, edges_into, AreEdgesInto, first_of};
+
+use crate::arrays::{grouped, starts};
+use crate::edge::Edge;
+use std::alloc::{AllocError, Global};
+use std::marker::Model;
+
+/// The edges of a number of states, in order.
+///
+/// Edge e goes from `sources[e]` to `targets[e]`. State x has the labels from `from[x]` up to
+/// `from[x + 1]`, and the edges into it are the `numbers` from `into[x]` up to `into[x + 1]`.
+#[derive(Drop)]
+pub struct EdgeStore<A: Copy> {
+    count: u32,
+    sources: Vec<u32>,
+    labels: Vec<A>,
+    targets: Vec<u32>,
+    from: Vec<u32>,
+    into: Vec<u32>,
+    numbers: Vec<u32>,
+}
+
+impl<A: Copy> Model for EdgeStore<A> {
+    ghost use Rattle.std.specs.Prelude.{ℕ, List};
+    ghost use Rattle.edge_store.specs.declared.edge.Edge.{Edge};
+    ghost use Rattle.edge_store.specs.Stored.{IsStored, edges_of};
+
+    ghost Value = { ℕ × List (Edge A) };
+
+    ghost view = { λ s. (s.count, edges_of s.sources.items s.labels.items s.targets.items) };
+
+    ghost invariant = { λ s. IsStored s.count s.sources.items s.labels.items s.targets.items
+        s.from.items s.into.items s.numbers.items };
+}
+
+fn sources<A: Copy>(alloc: Global, edges: &[Edge<A>]) -> Result<Vec<u32>, AllocError>
+    ensures sources { IfOk result (λ v. v.items ≡ map (λ e. e.source) edges.now) }
+{
+    edges.iter().map(|e| e.source).collect(alloc)
+}
+
+fn labels<A: Copy>(alloc: Global, edges: &[Edge<A>]) -> Result<Vec<A>, AllocError>
+    ensures labels { IfOk result (λ v. v.items ≡ map (λ e. e.label) edges.now) }
+{
+    edges.iter().map(|e| e.label).collect(alloc)
+}
+
+fn targets<A: Copy>(alloc: Global, edges: &[Edge<A>]) -> Result<Vec<u32>, AllocError>
+    ensures targets { IfOk result (λ v. v.items ≡ map (λ e. e.target) edges.now) }
+{
+    edges.iter().map(|e| e.target).collect(alloc)
+}
+
+impl<A: Copy> EdgeStore<A> {
+    /// The edges of n states. They keep their order, and are numbered by it.
+    pub fn build(alloc: Global, n: u32, edges: Vec<Edge<A>>) -> Result<EdgeStore<A>, AllocError>
+        requires small { n < 2 ^ 26 }
+        requires few { length edges.items < 2 ^ 26 }
+        requires ascending { AllPairs (λ a b. a ≤ b) (sources_of edges.items) }
+        requires sources_in { All (λ s. s < n) (sources_of edges.items) }
+        requires targets_in { All (λ t. t < n) (targets_of edges.items) }
+        ensures states { IfOk result (λ s. s.0 ≡ n) }
+        ensures edges { IfOk result (λ s. s.1 ≡ edges.items) }
+    {
+        let sources = sources(alloc, edges.as_slice())?;
+        let labels = labels(alloc, edges.as_slice())?;
+        let targets = targets(alloc, edges.as_slice())?;
+        let from = starts(alloc, n, sources.as_slice())?;
+        let into = starts(alloc, n, targets.as_slice())?;
+        let numbers = grouped(alloc, n, targets.as_slice(), into.as_slice())?;
+        Ok(EdgeStore {
+            count: n,
+            sources,
+            labels,
+            targets,
+            from,
+            into,
+            numbers,
+        })
+    }
+
+    /// How many edges there are.
+    pub fn len(&self) -> u32
+        ensures edges { result ≡ length self.now.1 }
+        ensures few { result < 2 ^ 26 }
+        ensures none { first_of self.now.1 0 ≡ 0 }
+        ensures all { first_of self.now.1 self.now.0 ≡ result }
+        ensures ascending { AllPairs (λ a b. a ≤ b) (sources_of self.now.1) }
+    {
+        self.sources.len() as u32
+    }
+
+    /// How many states there are.
+    pub fn states(&self) -> u32
+        ensures states { result ≡ self.now.0 }
+        ensures few { result < 2 ^ 26 }
+        ensures sources_in { All (λ s. s < result) (sources_of self.now.1) }
+        ensures targets_in { All (λ t. t < result) (targets_of self.now.1) }
+    {
+        self.count
+    }
+
+    /// All labels, in the order of the edges.
+    pub fn labels(&self) -> &[A]
+        ensures labels { result.now ≡ labels_of self.now.1 }
+    {
+        self.labels.as_slice()
+    }
+
+    /// The labels of the edges from state x, in order.
+    pub fn from_state(&self, x: u32) -> &[A]
+        requires { x < self.now.0 }
+        ensures labels { result.now ≡ labels_from self.now.1 x }
+        ensures few { length result.now < 2 ^ 26 }
+    {
+        let from = self.from[x as usize] as usize;
+        let to = self.from[x as usize + 1] as usize;
+        &self.labels[from..to]
+    }
+
+    /// The place in `labels` where the labels from state x begin. So it is the number of the first
+    /// edge from x, where x has one.
+    pub fn first_from(&self, x: u32) -> u32
+        requires { x < self.now.0 }
+        ensures first { result ≡ first_of self.now.1 x }
+        ensures labels { slice_range (labels_of self.now.1) result
+            (result + length (labels_from self.now.1 x))
+            ≡ labels_from self.now.1 x }
+        ensures targets { slice_range (targets_of self.now.1) result
+            (result + length (targets_from self.now.1 x))
+            ≡ targets_from self.now.1 x }
+        ensures edges { (e : ℕ) → e < length self.now.1 →
+            (slice_index (sources_of self.now.1) e ≡ x)
+            ↔ ((result ≤ e) × (e < result + length (labels_from self.now.1 x))) }
+        ensures as_many { length (targets_from self.now.1 x) ≡ length (labels_from self.now.1 x) }
+        ensures next { first_of self.now.1 (x + 1) ≡ result + length (labels_from self.now.1 x) }
+        ensures within { result + length (targets_from self.now.1 x) ≤ length self.now.1 }
+    {
+        self.from[x as usize]
+    }
+
+    /// The numbers of the edges into state y, ascending.
+    pub fn into_state(&self, y: u32) -> &[u32]
+        requires { y < self.now.0 }
+        ensures edges { result.now ≡ edges_into self.now.1 y }
+        ensures exact { AreEdgesInto self.now.1 y result.now }
+        ensures few { length result.now < 2 ^ 26 }
+    {
+        let from = self.into[y as usize] as usize;
+        let to = self.into[y as usize + 1] as usize;
+        &self.numbers[from..to]
+    }
+
+    /// The source of edge e.
+    pub fn source(&self, e: u32) -> u32
+        requires { e < length self.now.1 }
+        ensures source { result ≡ slice_index (sources_of self.now.1) e }
+        ensures in_range { result < self.now.0 }
+    {
+        self.sources[e as usize]
+    }
+
+    /// The target of edge e.
+    pub fn target(&self, e: u32) -> u32
+        requires { e < length self.now.1 }
+        ensures target { result ≡ slice_index (targets_of self.now.1) e }
+        ensures in_range { result < self.now.0 }
+    {
+        self.targets[e as usize]
+    }
+
+    /// The label of edge e.
+    pub fn label(&self, e: u32) -> &A
+        requires { e < length self.now.1 }
+        ensures label { (d : A) → result.now ≡ slice_index_or (labels_of self.now.1) e d }
+    {
+        &self.labels[e as usize]
+    }
+}
