@@ -1,0 +1,6 @@
+pub mod DigitLaws
+pub mod Folds
+pub mod NamesLemmas
+pub mod OverLaws
+pub mod TermLaws
+pub mod WordLemmas

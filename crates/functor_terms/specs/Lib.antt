@@ -1,0 +1,3 @@
+pub mod Words
+pub mod Terms
+pub mod Spelling

@@ -1,0 +1,76 @@
+//! A table of distinct words.
+ghost use Rattle.std.specs.Prelude.{◌≡◌, ◌+◌, ◌<◌, ◌^◌, ◌↔◌, [], ◌∷◌, ◌++◌, length, slice_get, Some, None, IsTrue, IfOk, OnErr, if◌then◌else◌};
+ghost use Rattle.file_cut.specs.Bytes.{IsName};
+ghost use Rattle.functor_terms.specs.Words.{place_of, AreNames};
+
+use indexmap::IndexSet;
+use std::alloc::{AllocError, Global};
+use std::marker::Model;
+
+/// Distinct words, numbered from 0 in the order in which they came. The words are lent, not copied.
+#[derive(Drop)]
+pub struct Labels<'a> {
+    words: IndexSet<&'a [u8]>,
+}
+
+impl<'a> Model for Labels<'a> {
+    ghost use Rattle.std.specs.Prelude.{ℕ, List, map};
+    ghost use Rattle.functor_terms.specs.Words.{AreNames};
+
+    ghost Value = { List (List ℕ) };
+
+    ghost view = { λ l. map (λ w. w.now) l.words.keys };
+
+    ghost invariant = { λ l. AreNames (map (λ w. w.now) l.words.keys) };
+}
+
+impl<'a> Labels<'a> {
+    /// No words.
+    pub fn new(alloc: Global) -> Labels<'a>
+        ensures { result ≡ [] }
+    {
+        Labels {
+            words: IndexSet::new(alloc),
+        }
+    }
+
+    /// How many words there are.
+    pub fn len(&self) -> u32
+        ensures count { result ≡ length self.now }
+        ensures names { AreNames self.now }
+    {
+        self.words.len() as u32
+    }
+
+    /// The number of a word, and None exactly where it is not one of these.
+    pub fn number(&self, word: &[u8]) -> Option<u32>
+        ensures { result ≡ place_of word.now self.now }
+    {
+        match self.words.get_index_of(&word) {
+            Some(i) => Some(i as u32),
+            None => None,
+        }
+    }
+
+    /// The word with a number.
+    pub fn word(&self, i: u32) -> &'a [u8]
+        requires { i < length self.now }
+        ensures word { slice_get self.now i ≡ Some result.now }
+        ensures names { AreNames self.now }
+    {
+        self.words.as_slice()[i as usize]
+    }
+
+    /// Puts a word last, and says whether it is new. A word that is there changes nothing, and
+    /// neither does a call for which memory was wanting.
+    pub fn add(&mut self, word: &'a [u8]) -> Result<bool, AllocError>
+        requires room { length self.old + 1 < 2 ^ 32 }
+        requires name { IsName word.now }
+        ensures new { IfOk result (λ new. IsTrue new ↔ (place_of word.now self.old ≡ None)) }
+        ensures words { IfOk result (λ new.
+            self.new ≡ (if new then self.old ++ word.now ∷ [] else self.old)) }
+        ensures unchanged { OnErr result (self.new ≡ self.old) }
+    {
+        Ok(self.words.insert(word)?)
+    }
+}

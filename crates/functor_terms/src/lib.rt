@@ -1,0 +1,26 @@
+//! Functors, as terms whose nodes are numbered in preorder from 0.
+//!
+//! Seen as: the list of a term's nodes, each with the numbers of its children (`specs/Terms.antt`).
+//! What a term means node by node is a fold over that list, and not said here.
+//! Numbers: a term has 1 to 256 nodes and a depth of at most 32; a constant and an exponent have 1
+//! to 65,536 labels.
+//! Source: the functors of H.-P. Deifel, S. Milius, L. Schröder and T. Wißmann (2019), section 2.
+#![tactic(auto)]
+
+mod copies;
+mod fault;
+mod label_set;
+mod labels;
+mod node;
+mod part;
+mod reading;
+mod term;
+#[cfg(test)]
+mod tests;
+
+pub use fault::{PartFault, TermFault};
+pub use labels::Labels;
+pub use node::{Branch, LabelSet, Node};
+pub use part::TermPart;
+pub use reading::read_term;
+pub use term::Term;

@@ -1,0 +1,17 @@
+pub mod Tests
+pub mod EqualityLaws
+pub mod MapLaws
+pub mod Weights
+pub mod Coarser
+pub mod FirstPlaces
+pub mod StableLaws
+pub mod MovedLemmas
+pub mod OrderLaws
+pub mod Canonical
+pub mod NormalLaws
+pub mod TermFacts
+pub mod Totals
+pub mod InOrder
+pub mod RelabelLaws
+pub mod ReadyLaws
+pub mod RelabelSteps
