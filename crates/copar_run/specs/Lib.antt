@@ -1,0 +1,6 @@
+pub mod Words
+pub mod Whole
+pub mod Reading
+pub mod Blocks
+pub mod Outcome
+pub mod Lines

@@ -1,0 +1,89 @@
+//! The lines that say why a run has no whole output.
+ghost use Rattle.std.specs.Prelude.{◌≡◌, ◌≤◌, ℕ, [], ◌++◌, take, codes, decimal};
+ghost use Rattle.std.specs.Io.KnownBytes.{append_known};
+ghost use Rattle.copar_run.specs.Outcome.{IsQuiet};
+ghost use Rattle.copar_run.specs.Lines.{line_of, ending_of};
+
+use crate::Status;
+use crate::whole::put_all;
+use itoa::Buffer;
+use outside::Sink;
+use typing::TypeKind;
+
+/// Writes the line of a status, in pieces and without memory. A fault of the sink ends the line.
+pub(crate) fn put_line<E: Sink>(err: &mut E, status: Status)
+    ensures whole { IsQuiet (E.faults err.old) (E.faults err.new) →
+        E.taken err.new ≡ append_known (E.taken err.old) (line_of status) }
+    ensures front { (n : ℕ) ×
+        (E.taken err.new ≡ append_known (E.taken err.old) (take n (line_of status))) }
+    ensures no_count_falls { E.faults err.old ≤ E.faults err.new }
+    ensures no_call_when_done { status ≡ Status.Done → err.new ≡ err.old }
+{
+    match status {
+        Status::Done => put_text(err, b""),
+        Status::Usage => put_text(err, b""),
+        Status::Grammar { line } => {
+            put_numbered(err, b"copar: grammar fault on line ", line, b"\n")
+        }
+        Status::TypeFault { line, kind } => put_numbered(
+            err,
+            b"copar: type fault on line ",
+            line,
+            ending(kind),
+        ),
+        Status::ReadFault => put_text(err, b"copar: read fault\n"),
+        Status::WriteFault => put_text(err, b"copar: write fault\n"),
+        Status::NoMemory => put_text(err, b"copar: no memory\n"),
+        Status::TooLong => put_text(err, b"copar: file longer than 67108864 bytes\n"),
+        Status::NotBuilt => put_text(err, b"copar: not built\n"),
+    }
+}
+
+/// How the line of a type fault ends.
+fn ending(kind: TypeKind) -> &'static [u8]
+    ensures { result.now ≡ ending_of kind }
+{
+    match kind {
+        TypeKind::UnknownState => b": unknown state\n",
+        TypeKind::NotALabel => b": not a label\n",
+        TypeKind::WrongShape => b": wrong shape\n",
+        TypeKind::WrongCount => b": wrong count\n",
+        TypeKind::RepeatedKey => b": repeated key\n",
+        TypeKind::MissingKey => b": missing key\n",
+        TypeKind::BadIndex => b": bad index\n",
+        TypeKind::NotANumber => b": not a number\n",
+        TypeKind::Negative => b": negative\n",
+        TypeKind::RepeatedState => b": repeated state\n",
+    }
+}
+
+/// Writes a text.
+fn put_text<E: Sink>(err: &mut E, text: &[u8])
+    ensures whole { IsQuiet (E.faults err.old) (E.faults err.new) →
+        E.taken err.new ≡ append_known (E.taken err.old) text.now }
+    ensures front { (n : ℕ) ×
+        (E.taken err.new ≡ append_known (E.taken err.old) (take n text.now)) }
+    ensures no_count_falls { E.faults err.old ≤ E.faults err.new }
+    ensures no_call_for_no_byte { text.now ≡ [] → err.new ≡ err.old }
+{
+    let _whole = put_all(err, text);
+}
+
+/// Writes a text, a number and what ends the line.
+fn put_numbered<E: Sink>(err: &mut E, text: &[u8], number: u32, ending: &[u8])
+    ensures whole { IsQuiet (E.faults err.old) (E.faults err.new) →
+        E.taken err.new
+        ≡ append_known (E.taken err.old) (text.now ++ decimal number ++ ending.now) }
+    ensures front { (n : ℕ) × (E.taken err.new
+        ≡ append_known (E.taken err.old) (take n (text.now ++ decimal number ++ ending.now))) }
+    ensures no_count_falls { E.faults err.old ≤ E.faults err.new }
+{
+    if !put_all(err, text) {
+        return;
+    }
+    let mut buffer = Buffer::new();
+    if !put_all(err, buffer.format(number).as_bytes()) {
+        return;
+    }
+    let _whole = put_all(err, ending);
+}
