@@ -1,0 +1,82 @@
+#!/usr/bin/env python3
+"""Times `copar blocks` on made files of sets of states, and prints a table.
+
+usage: bench/blocks.py [--program P] [--seconds S] [--sizes N,N,..] [--kinds K,K,..]
+
+Kinds, each made anew from a seed: `random` has 1.5 elements a state; `tree` is a full binary tree;
+`alike` has one class, so it is reading and one round; `chain` is one long chain, which takes as many
+rounds as states. A run of more than S seconds is stopped. Files and outputs stand in a folder of the
+system's temporary files while it runs.
+"""
+import argparse
+import os
+import random
+import resource
+import subprocess
+import tempfile
+import time
+
+
+def members(kind, n, chance):
+    """For each state the members of its set."""
+    if kind == "random":
+        sets = [[] for _ in range(n)]
+        for _ in range(n * 3 // 2):
+            sets[chance.randrange(n)].append(chance.randrange(n))
+        return sets
+    if kind == "tree":
+        return [[child for child in (2 * i + 1, 2 * i + 2) if child < n] for i in range(n)]
+    if kind == "chain":
+        return [[i + 1] if i + 1 < n else [] for i in range(n)]
+    return [[(i + 1) % n] for i in range(n)]
+
+
+def write_file(path, kind, n):
+    chance = random.Random(7)
+    with open(path, "w", encoding="ascii") as out:
+        out.write("P X\n")
+        for i, targets in enumerate(members(kind, n, chance)):
+            out.write(f"s{i}: {{{', '.join(f's{t}' for t in targets)}}}\n")
+
+
+def measured(program, path, seconds):
+    """Wall seconds, processor seconds and peak megabytes of one run, or None where it took too long."""
+    begun = time.perf_counter()
+    with open(os.devnull, "w") as sink:
+        child = subprocess.Popen([program, "blocks", path], stdout=sink,
+                                 preexec_fn=lambda: resource.setrlimit(resource.RLIMIT_CPU, (seconds, seconds)))
+        _, status, used = os.wait4(child.pid, 0)
+    child.returncode = os.waitstatus_to_exitcode(status)
+    if child.returncode != 0:
+        return None
+    return time.perf_counter() - begun, used.ru_utime + used.ru_stime, used.ru_maxrss / 1024
+
+
+def main():
+    here = os.path.dirname(os.path.abspath(__file__))
+    args = argparse.ArgumentParser(description=__doc__, formatter_class=argparse.RawDescriptionHelpFormatter)
+    args.add_argument("--program", default=os.path.join(here, "..", "crates", "copar", "out", "copar"))
+    args.add_argument("--seconds", type=int, default=60)
+    args.add_argument("--sizes", default="25000,50000,100000,200000")
+    args.add_argument("--kinds", default="random,tree,alike,chain")
+    args = args.parse_args()
+    print("| file | states | wall s | processor s | growth | peak MB |")
+    print("|---|---|---|---|---|---|")
+    with tempfile.TemporaryDirectory() as folder:
+        path = os.path.join(folder, "system.copar")
+        for kind in args.kinds.split(","):
+            before = None
+            for size in map(int, args.sizes.split(",")):
+                write_file(path, kind, size)
+                run = measured(args.program, path, args.seconds)
+                if run is None:
+                    print(f"| {kind} | {size:,} | > {args.seconds} | | | |", flush=True)
+                    break
+                wall, cpu, peak = run
+                growth = "" if before is None else f"{cpu / before:.2f}"
+                print(f"| {kind} | {size:,} | {wall:.2f} | {cpu:.2f} | {growth} | {peak:.0f} |", flush=True)
+                before = cpu
+
+
+if __name__ == "__main__":
+    main()
