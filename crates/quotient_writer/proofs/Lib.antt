@@ -1,0 +1,10 @@
+pub mod Picks
+pub mod Composed
+pub mod QuotientLaws
+pub mod WeightSums
+pub mod KeptWeights
+pub mod Classes
+pub mod TextLaws
+pub mod LineTokens
+pub mod ReadBack
+pub mod OwnQuotient

@@ -1,0 +1,58 @@
+-- Laws of quotients, as statements. Each is the contract of a function that does nothing.
+use Rattle.std.specs.Prelude.{◌≡◌, ℕ, ◌<◌, List, length, slice_index, IsTrue}
+use Rattle.std.specs.List.{list_all}
+use Rattle.functor_terms.specs.Terms.{Nodes}
+use Rattle.typing.specs.declared.value.Value.{Value}
+use Rattle.typing.specs.Values.{states_below}
+use Rattle.typing.specs.Fits.{fits}
+use Rattle.typing.specs.Order.{is_normal}
+use Rattle.typing.specs.Stable.{AreEquivalent}
+use Rattle.quotient_writer.specs.Quotient.{is_numbered, IsQuotient}
+
+-- one name and one label for each state, and the labels number classes by their first states
+pub record AreLabelled (names : List (List ℕ)) (values : List Value) (b : List ℕ) : Type 0 where
+  pub covers : length b ≡ length names
+  pub one_each : length values ≡ length names
+  pub numbered : IsTrue (is_numbered b)
+
+-- two quotients by one list have the same names
+abbrev pub NamesAreDetermined : Type 0
+NamesAreDetermined =
+    (t : Nodes) (names : List (List ℕ)) (values : List Value) (b : List ℕ) →
+    AreLabelled names values b → (ns ms : List (List ℕ)) (us vs : List Value) →
+    IsQuotient t names values b ns us → IsQuotient t names values b ms vs → ns ≡ ms
+
+-- and the same values
+abbrev pub ValuesAreDetermined : Type 0
+ValuesAreDetermined =
+    (t : Nodes) (names : List (List ℕ)) (values : List Value) (b : List ℕ) →
+    AreLabelled names values b → (ns ms : List (List ℕ)) (us vs : List Value) →
+    IsQuotient t names values b ns us → IsQuotient t names values b ms vs → us ≡ vs
+
+-- where equivalent states have one label, no two states of the quotient are equivalent
+abbrev pub QuotientsAreMinimal : Type 0
+QuotientsAreMinimal =
+    (t : Nodes) (names : List (List ℕ)) (values : List Value) (b : List ℕ) →
+    AreLabelled names values b → IsTrue (list_all (states_below (length values)) values) →
+    ((i j : ℕ) → AreEquivalent t values i j → slice_index b i ≡ slice_index b j) →
+    (ns : List (List ℕ)) (vs : List Value) → IsQuotient t names values b ns vs →
+    (k l : ℕ) → AreEquivalent t vs k l → k ≡ l
+
+-- normal values that fit, and speak of states of the list
+pub record AreWellFormed (t : Nodes) (values : List Value) : Type 0 where
+  pub fitting : IsTrue (list_all (fits t 0) values)
+  pub normal : IsTrue (list_all (is_normal t 0) values)
+  pub in_range : IsTrue (list_all (states_below (length values)) values)
+
+-- no two states have one label
+abbrev pub AreApart : List ℕ → Type 0
+AreApart b =
+    (i j : ℕ) → i < length b → j < length b → slice_index b i ≡ slice_index b j → i ≡ j
+
+-- where no two states have one label, the quotient is the system itself
+abbrev pub MinimalSystemsAreTheirOwnQuotients : Type 0
+MinimalSystemsAreTheirOwnQuotients =
+    (t : Nodes) (names : List (List ℕ)) (values : List Value) (b : List ℕ) →
+    AreLabelled names values b → AreWellFormed t values → AreApart b →
+    (ns : List (List ℕ)) (vs : List Value) → IsQuotient t names values b ns vs →
+    (ns ≡ names) × (vs ≡ values)

@@ -1,0 +1,5 @@
+pub mod Quotient
+pub mod Laws
+pub mod Blocks
+pub mod Texts
+pub mod ReadBack

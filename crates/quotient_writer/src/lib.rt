@@ -1,0 +1,24 @@
+//! The quotient of a coalgebra by its classes, and the texts of the quotient and of the block list.
+//!
+//! Seen as: the names and values of the quotient (`specs/Quotient.antt`), and texts as lists of
+//! bytes (`specs/Texts.antt`, `specs/Blocks.antt`). The text of a system is that of sets of states,
+//! so far.
+//! Numbers: classes are numbered from 0 by their first states, and each has the name of its first
+//! state.
+//! Source: quotients of coalgebras, J. Rutten, "Universal coalgebra: a theory of systems" (2000).
+#![tactic(auto)]
+
+mod block_list;
+mod laws;
+mod making;
+mod system_text;
+#[cfg(test)]
+mod tests;
+
+pub use block_list::blocks_text;
+pub use laws::{
+    minimal_systems_are_their_own_quotients, quotients_are_determined, quotients_are_minimal,
+    texts_are_read_back,
+};
+pub use making::quotient;
+pub use system_text::quotient_text;
