@@ -19,7 +19,7 @@ numbers_old n k b e h =
     (ltb-true k n p.0, p.1)
 
 -- a place before the next is before this one or is it
-last_case : (j n : ℕ) → j < n + 1 → (j < n) ⊎ (j ≡ n)
+pub last_case : (j n : ℕ) → j < n + 1 → (j < n) ⊎ (j ≡ n)
 last_case j n h = ⊎_elim (λ less. inl less) (λ more. inr (let e : j ≡ n = omega arith in e)) (cases_lt j n)
 
 module _ (labels : List ℕ) where

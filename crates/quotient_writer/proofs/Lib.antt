@@ -8,3 +8,5 @@ pub mod TextLaws
 pub mod LineTokens
 pub mod ReadBack
 pub mod OwnQuotient
+pub mod NumberLaws
+pub mod ClassLaws

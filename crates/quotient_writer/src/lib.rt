@@ -11,6 +11,7 @@
 mod block_list;
 mod laws;
 mod making;
+mod numbering;
 mod system_text;
 #[cfg(test)]
 mod tests;
@@ -21,4 +22,5 @@ pub use laws::{
     texts_are_read_back,
 };
 pub use making::quotient;
+pub use numbering::class_numbers;
 pub use system_text::quotient_text;

@@ -1,5 +1,5 @@
 //! What no clause says: that quotients and texts come out as worked by hand, with ample memory.
-use crate::{blocks_text, quotient, quotient_text};
+use crate::{blocks_text, class_numbers, quotient, quotient_text};
 use flat_files::read_flat;
 use rounds::first_equivalents;
 use std::test::Fail;
@@ -36,5 +36,12 @@ fn a_class_is_one_state_with_the_name_of_its_first(rt: HostRuntime) -> Result<()
         }
         Err(_) => assert!(rt; false),
     }
+    Ok(())
+}
+
+#[test]
+fn classes_are_numbered_by_their_first_states(rt: HostRuntime) -> Result<(), Fail> {
+    let labels = class_numbers(rt.alloc(), &[0, 0, 2, 0, 2])?;
+    assert_eq!(rt; labels.as_slice(), [0, 0, 1, 0, 1].as_slice());
     Ok(())
 }
