@@ -55,9 +55,10 @@ fn targets<A: Copy>(alloc: Global, edges: &[Edge<A>]) -> Result<Vec<u32>, AllocE
 }
 
 impl<A: Copy> EdgeStore<A> {
-    /// The edges of n states. They keep their order, and are numbered by it.
+    /// The edges of n states. They keep their order, and are numbered by it. Sources do not
+    /// descend, sources and targets are below n, and there are fewer than 2^26 edges. The error is
+    /// want of memory.
     pub fn build(alloc: Global, n: u32, edges: Vec<Edge<A>>) -> Result<EdgeStore<A>, AllocError>
-        requires small { n < 2 ^ 26 }
         requires few { length edges.items < 2 ^ 26 }
         requires ascending { AllPairs (λ a b. a ≤ b) (sources_of edges.items) }
         requires sources_in { All (λ s. s < n) (sources_of edges.items) }
@@ -96,7 +97,6 @@ impl<A: Copy> EdgeStore<A> {
     /// How many states there are.
     pub fn states(&self) -> u32
         ensures states { result ≡ self.now.0 }
-        ensures few { result < 2 ^ 26 }
         ensures sources_in { All (λ s. s < result) (sources_of self.now.1) }
         ensures targets_in { All (λ t. t < result) (targets_of self.now.1) }
     {
