@@ -14,6 +14,7 @@ mod labels;
 mod node;
 mod part;
 mod reading;
+mod sign;
 mod term;
 #[cfg(test)]
 mod tests;
