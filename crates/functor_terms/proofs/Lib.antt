@@ -1,8 +1,10 @@
 pub mod DigitLaws
 pub mod Folds
 pub mod ItemLaws
+pub mod LabelLaws
 pub mod NamesLemmas
 pub mod OverLaws
+pub mod PartLaws
 pub mod SignTests
 pub mod TermLaws
 pub mod WordLemmas
