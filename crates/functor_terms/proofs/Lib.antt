@@ -1,5 +1,6 @@
 pub mod DigitLaws
 pub mod Folds
+pub mod GrammarLaws
 pub mod ItemLaws
 pub mod LabelLaws
 pub mod NamesLemmas

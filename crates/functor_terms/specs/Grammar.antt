@@ -91,6 +91,13 @@ abbrev pub powers : Part → List LabelSet → Part
 powers base [] = base
 powers base (labels ∷ others) = powers (over (Power labels) (base ∷ [])) others
 
+-- one term, or the node over a chain of two or more of them
+abbrev pub SpellsChain : Sign → Node → (List Sign → Part → Type 0) → List Sign → Part → Type 0
+SpellsChain between node Spells ts part =
+    Spells ts part
+    ⊎ ((parts : List Part) × (2 ≤ length parts) × SpellsEach between Spells ts parts
+    × (part ≡ over node parts))
+
 module _ (Inside : List Sign → Part → Type 0) where
   -- weights over the term in their parentheses, or an atom
   pub data SpellsBase (ts : List Sign) (part : Part) : Type 0 where
@@ -122,13 +129,6 @@ module _ (Inside : List Sign → Part → Type 0) where
       (front : List Sign) × (rest : List Sign) × (base : Part) × (exponents : List LabelSet)
       × (ts ≡ front ++ rest) × SpellsPrefix front base × SpellsExponents rest exponents
       × (part ≡ powers base exponents)
-
-  -- one such term, or the node over a chain of two or more of them
-  abbrev pub SpellsChain : Sign → Node → (List Sign → Part → Type 0) → List Sign → Part → Type 0
-  SpellsChain between node Spells ts part =
-      Spells ts part
-      ⊎ ((parts : List Part) × (2 ≤ length parts) × SpellsEach between Spells ts parts
-      × (part ≡ over node parts))
 
   -- a power, or a product of powers
   abbrev pub SpellsProduct : List Sign → Part → Type 0
