@@ -46,7 +46,7 @@ abbrev pub AfterSum : List Sign → Type 0
 AfterSum ts = AfterProduct ts × (behind_sign is_plus ts ≡ None)
 
 -- a node over small parts is within the bounds
-small-bounded : (node : Node) (parts : List Part) → are_small parts ≡ true → IsBounded (over node parts)
+pub small-bounded : (node : Node) (parts : List Part) → are_small parts ≡ true → IsBounded (over node parts)
 small-bounded node parts e =
     let (few, shallow) = both (nat_lt (length (nodes_of parts)) node_limit) (nat_lt (deepest parts) depth_limit) e in
     let less : length (nodes_of parts) < 256 = grind (arith, nat_tests) in
@@ -59,27 +59,27 @@ bounded-small node parts (shallow, few) =
     let low : deepest parts < 32 = omega (arith, shallow) in
     both_true (nat_lt (length (nodes_of parts)) node_limit) (nat_lt (deepest parts) depth_limit) (grind (arith, nat_tests)) (grind (arith, nat_tests))
 
-made_of : (node : Node) (parts : List Part) (ts : List Sign) (y : Part) (rest : List Sign) → made_over node parts ts ≡ Some (y, rest) → (over node parts ≡ y) × (ts ≡ rest) × IsBounded (over node parts)
+pub made_of : (node : Node) (parts : List Part) (ts : List Sign) (y : Part) (rest : List Sign) → made_over node parts ts ≡ Some (y, rest) → (over node parts ≡ y) × (ts ≡ rest) × IsBounded (over node parts)
 made_of node parts ts y rest e = by (are_small parts) refl e
   where
     by : (b : Bool) → are_small parts ≡ b → cond {A = Option (Part × List Sign)} b (Some (over node parts, ts)) None ≡ Some (y, rest) → (over node parts ≡ y) × (ts ≡ rest) × IsBounded (over node parts)
     by true is e = let (here, there) = parts_of (over node parts) y ts rest e in (here, there, small-bounded node parts is)
     by false is e = cc
 
-made_at : (node : Node) (parts : List Part) (x : Part) (rest : List Sign) → x ≡ over node parts → IsBounded x → made_over node parts rest ≡ Some (x, rest)
+pub made_at : (node : Node) (parts : List Part) (x : Part) (rest : List Sign) → x ≡ over node parts → IsBounded x → made_over node parts rest ≡ Some (x, rest)
 made_at node parts x rest made bounded =
     ap (λ b. cond {A = Option (Part × List Sign)} b (Some (over node parts, rest)) None) (bounded-small node parts (subst IsBounded made bounded))
     ∙ ap (λ (p : Part). Some (p, rest)) (sym made)
 
 -- the parts of a node within the bounds are within them
-bounded-child : (node : Node) (child x : Part) → x ≡ over node (child ∷ []) → IsBounded x → IsBounded child
+pub bounded-child : (node : Node) (child x : Part) → x ≡ over node (child ∷ []) → IsBounded x → IsBounded child
 bounded-child node child x made (shallow, few) =
     let depth : x.1 ≡ max child.1 0 + 1 = ap (λ (p : Part). p.1) made in
     let size : length x.0 ≡ suc (length (child.0 ++ [])) = ap (λ (p : Part). length p.0) made in
     (let low : x.1 ≤ 32 = shallow in let goal : child.1 ≤ 32 = omega (arith, low, depth) in goal,
     let less : length x.0 ≤ 256 = few in let goal : length child.0 ≤ 256 = omega (arith, less, size, length-append child.0 []) in goal)
 
-child-shallower : (d : ℕ) (node : Node) (child x : Part) → x ≡ over node (child ∷ []) → x.1 ≤ suc d → child.1 ≤ d
+pub child-shallower : (d : ℕ) (node : Node) (child x : Part) → x ≡ over node (child ∷ []) → x.1 ≤ suc d → child.1 ≤ d
 child-shallower d node child x made fits = let depth : x.1 ≡ max child.1 0 + 1 = ap (λ (p : Part). p.1) made in omega (arith, depth, fits)
 
 -- No token is weights or an atom.
@@ -87,7 +87,7 @@ labels-none : (labels : LabelSet) → SpellsLabels [] labels → ⊥
 labels-none labels (below digits is made are) = cc
 labels-none labels (listed inner words is each made are) = cc
 
-base-none : (Inside : List Sign → Part → Type 0) (x : Part) → SpellsBase Inside [] x → ⊥
+pub base-none : (Inside : List Sign → Part → Type 0) (x : Part) → SpellsBase Inside [] x → ⊥
 base-none Inside x (weights t node inner child is stands spelled made) = cc
 base-none Inside x (letter t node is stands made) = cc
 base-none Inside x (constant labels spelled made) = labels-none labels spelled
@@ -101,14 +101,14 @@ labels-no_prefix t ts labels (below digits is made are) = ap prefix_of (sym (fir
 labels-no_prefix t ts labels (listed inner words is each made are) = ap prefix_of (sym (first_same t OpenBrace ts _ is))
 
 -- neither begins with a prefix
-base-no_prefix : (Inside : List Sign → Part → Type 0) (t : Sign) (ts : List Sign) (x : Part) → SpellsBase Inside (t ∷ ts) x → prefix_of t ≡ None
+pub base-no_prefix : (Inside : List Sign → Part → Type 0) (t : Sign) (ts : List Sign) (x : Part) → SpellsBase Inside (t ∷ ts) x → prefix_of t ≡ None
 base-no_prefix Inside t ts x (weights u node inner child is stands spelled made) = ap prefix_of (sym (first_same t u ts _ is)) ∙ weights-no_prefix u node stands
 base-no_prefix Inside t ts x (letter u node is stands made) = ap prefix_of (sym (first_same t u ts [] is)) ∙ letter-no_prefix u node stands
 base-no_prefix Inside t ts x (constant labels spelled made) = labels-no_prefix t ts labels spelled
 base-no_prefix Inside t ts x (group inner is spelled) = ap prefix_of (sym (first_same t Open ts _ is))
 
 -- what stands behind `^(`
-power_behind : (ts inner : List Sign) → behind_power ts ≡ Some inner → ts ≡ Caret ∷ Open ∷ inner
+pub power_behind : (ts inner : List Sign) → behind_power ts ≡ Some inner → ts ≡ Caret ∷ Open ∷ inner
 power_behind ts inner e = by (behind_sign is_caret ts) refl e
   where
     by : (r : Option (List Sign)) → behind_sign is_caret ts ≡ r → option_and_then (behind_sign is_open) r ≡ Some inner → ts ≡ Caret ∷ Open ∷ inner
@@ -124,7 +124,7 @@ pub record FoundPowers (base : Part) (ts : List Sign) (x : Part) (rest : List Si
   pub made : x ≡ powers base exponents
   pub bounded : IsBounded x
 
-powers-sound : (n : ℕ) (base : Part) (ts : List Sign) (x : Part) (rest : List Sign) → IsBounded base → powers_from n base ts ≡ Some (x, rest) → FoundPowers base ts x rest
+pub powers-sound : (n : ℕ) (base : Part) (ts : List Sign) (x : Part) (rest : List Sign) → IsBounded base → powers_from n base ts ≡ Some (x, rest) → FoundPowers base ts x rest
 unfolding powers_from
 powers-sound zero base ts x rest bounded e = cc
 powers-sound (suc n) base ts x rest bounded e = by (powers-sound n) (behind_sign is_caret ts) refl e
@@ -151,16 +151,16 @@ powers-sound (suc n) base ts x rest bounded e = by (powers-sound n) (behind_sign
         }
 
 -- a power is deeper than its base by the number of its exponents
-powers-depth : (base : Part) (exponents : List LabelSet) → (powers base exponents).1 ≡ base.1 + length exponents
+pub powers-depth : (base : Part) (exponents : List LabelSet) → (powers base exponents).1 ≡ base.1 + length exponents
 powers-depth base [] = omega arith
 powers-depth base (labels ∷ others) = omega (arith, powers-depth (over (Power labels) (base ∷ [])) others)
 
-powers-size : (base : Part) (exponents : List LabelSet) → length base.0 ≤ length (powers base exponents).0
+pub powers-size : (base : Part) (exponents : List LabelSet) → length base.0 ≤ length (powers base exponents).0
 powers-size base [] = omega arith
 powers-size base (labels ∷ others) =
     omega (arith, powers-size (over (Power labels) (base ∷ [])) others, length-append base.0 [])
 
-powers-complete : (n : ℕ) (base : Part) (front : List Sign) (exponents : List LabelSet) (rest : List Sign) → SpellsExponents front exponents → IsBounded (powers base exponents) → AfterPower rest → length exponents < n → powers_from n base (front ++ rest) ≡ Some (powers base exponents, rest)
+pub powers-complete : (n : ℕ) (base : Part) (front : List Sign) (exponents : List LabelSet) (rest : List Sign) → SpellsExponents front exponents → IsBounded (powers base exponents) → AfterPower rest → length exponents < n → powers_from n base (front ++ rest) ≡ Some (powers base exponents, rest)
 unfolding powers_from
 powers-complete zero base front exponents rest spelled bounded follows fits = absurd (omega (arith, fits))
 powers-complete (suc n) base front [] rest spelled bounded follows fits =
@@ -216,7 +216,7 @@ module _ (node : Node) (goes_on : Sign → Bool) (between : Sign) (test : IsTest
           found_as (Bounded (SpellsChain between node Spells)) ts part x behind rest e (record { front = found.front; split = found.split; spelled = (inl each.0, each.1) })
       by (part ∷ other ∷ parts) are e = chained (part ∷ other ∷ parts) are (omega arith) e
 
-  chain-sound : IsSound item (Bounded Spells) → IsSound (chain_at node goes_on item) (Bounded (SpellsChain between node Spells))
+  pub chain-sound : IsSound item (Bounded Spells) → IsSound (chain_at node goes_on item) (Bounded (SpellsChain between node Spells))
   chain-sound sound ts x rest e =
       let (items, behind, read, over_them) = and_then_of (chain_over node) (items_from item goes_on is_few node_limit [] ts) x rest e in
       let found = items-sound item goes_on between test is_few (Bounded Spells) sound (λ _. Unit {0}) (λ before x ts kept joined spelled. tt) node_limit [] ts items behind tt read in
@@ -237,7 +237,7 @@ module _ (node : Node) (goes_on : Sign → Bool) (between : Sign) (test : IsTest
   two-over (x ∷ y ∷ parts) ts two = refl
 
   module _ (own : (ts : List Sign) (x : Part) → Spells ts x → IsOwnPart x) (MayFollow : List Sign → Type 0) (between_follows : (rest : List Sign) → MayFollow (between ∷ rest)) where
-    chain-complete : (d : ℕ) → IsComplete item (Within d Spells) MayFollow → (front : List Sign) (x : Part) (rest : List Sign) → Within d (SpellsChain between node Spells) front x → MayFollow rest → behind_sign goes_on rest ≡ None → chain_at node goes_on item (front ++ rest) ≡ Some (x, rest)
+    pub chain-complete : (d : ℕ) → IsComplete item (Within d Spells) MayFollow → (front : List Sign) (x : Part) (rest : List Sign) → Within d (SpellsChain between node Spells) front x → MayFollow rest → behind_sign goes_on rest ≡ None → chain_at node goes_on item (front ++ rest) ≡ Some (x, rest)
     chain-complete d complete front x rest (inl spelled, budget, bounded) follows ends =
         let few : length (x.0 ++ []) ≤ 256 = let less : length x.0 ≤ 256 = bounded.1 in omega (arith, less, length-append x.0 []) in
         ap (option_and_then (λ p. chain_over node p.0 p.1))
@@ -258,7 +258,7 @@ module _ (node : Node) (goes_on : Sign → Bool) (between : Sign) (test : IsTest
 -- Groups, weights and atoms.
 module _ (inside : Reads Part) (Inside : List Sign → Part → Type 0) where
   module _ (sound : IsSound inside (Bounded Inside)) where
-    group-sound : (ts : List Sign) (x : Part) (rest : List Sign) → group_at inside ts ≡ Some (x, rest) → (inner : List Sign) × (ts ≡ inner ++ Close ∷ rest) × Inside inner x × IsBounded x
+    pub group-sound : (ts : List Sign) (x : Part) (rest : List Sign) → group_at inside ts ≡ Some (x, rest) → (inner : List Sign) × (ts ≡ inner ++ Close ∷ rest) × Inside inner x × IsBounded x
     group-sound ts x rest e =
         let (part, behind, read, closed) = and_then_of (ended is_close) (inside ts) x rest e in
         let (same, ends) = ended_of is_close Close close_test part x behind rest closed in
@@ -311,7 +311,7 @@ module _ (inside : Reads Part) (Inside : List Sign → Part → Type 0) where
         }
     atom-sound (t ∷ ts) x rest e = letter-sound t ts x rest e
 
-    base-sound : IsSound (base_at inside) (Bounded (SpellsBase Inside))
+    pub base-sound : IsSound (base_at inside) (Bounded (SpellsBase Inside))
     base-sound [] x rest e = cc
     base-sound (t ∷ ts) x rest e = by (weights_of t) (behind_power ts) refl refl e
       where

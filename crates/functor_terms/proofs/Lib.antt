@@ -6,6 +6,7 @@ pub mod LabelLaws
 pub mod NamesLemmas
 pub mod OverLaws
 pub mod PartLaws
+pub mod ReadingLaws
 pub mod SignTests
 pub mod TermLaws
 pub mod WordLemmas
