@@ -5,6 +5,7 @@ pub mod ItemLaws
 pub mod LabelLaws
 pub mod NamesLemmas
 pub mod OverLaws
+pub mod PartFolds
 pub mod PartLaws
 pub mod ReadingLaws
 pub mod SignTests
