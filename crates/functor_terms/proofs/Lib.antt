@@ -10,4 +10,5 @@ pub mod PartLaws
 pub mod ReadingLaws
 pub mod SignTests
 pub mod TermLaws
+pub mod TextTokens
 pub mod WordLemmas
