@@ -180,7 +180,7 @@ powers-complete (suc n) base front (labels ∷ others) rest (ahead, behind, spli
     ∙ powers-complete n (over (Power labels) (base ∷ [])) behind others rest spelled bounded follows (omega (arith, fits))
 
 -- Chains.
-each-weaker : {A : Type 0} (between : Sign) (R S : List Sign → A → Type 0) → ((ts : List Sign) (x : A) → R ts x → S ts x) → (ts : List Sign) (xs : List A) → SpellsEach between R ts xs → SpellsEach between S ts xs
+pub each-weaker : {A : Type 0} (between : Sign) (R S : List Sign → A → Type 0) → ((ts : List Sign) (x : A) → R ts x → S ts x) → (ts : List Sign) (xs : List A) → SpellsEach between R ts xs → SpellsEach between S ts xs
 each-weaker between R S h ts [] each = each
 each-weaker between R S h ts (x ∷ []) each = h ts x each
 each-weaker between R S h ts (x ∷ y ∷ xs) (front, behind, split, first, others) = (front, behind, split, h front x first, each-weaker between R S h behind (y ∷ xs) others)

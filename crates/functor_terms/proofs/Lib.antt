@@ -3,6 +3,7 @@ pub mod Folds
 pub mod GrammarLaws
 pub mod ItemLaws
 pub mod LabelLaws
+pub mod MonotoneLaws
 pub mod NamesLemmas
 pub mod OverLaws
 pub mod PartFolds
