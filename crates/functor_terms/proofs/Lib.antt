@@ -11,5 +11,6 @@ pub mod PartLaws
 pub mod ReadingLaws
 pub mod SignTests
 pub mod TermLaws
+pub mod TextLaws
 pub mod TextTokens
 pub mod WordLemmas

@@ -52,7 +52,7 @@ chain-takes : (n : ℕ) → 2 ≤ n → IsTrue (takes Sum n) × IsTrue (takes Pr
 chain-takes n two = (grind (arith, nat_tests), grind (arith, nat_tests))
 
 -- so are the parts of a chain
-each-part : (between : Sign) (Spells : List Sign → Part → Type 0) → ((ts : List Sign) (x : Part) → Spells ts x → IsOwnPart x) → (ts : List Sign) (parts : List Part) → SpellsEach between Spells ts parts → AllByRecursion IsOwnPart parts
+pub each-part : (between : Sign) (Spells : List Sign → Part → Type 0) → ((ts : List Sign) (x : Part) → Spells ts x → IsOwnPart x) → (ts : List Sign) (parts : List Part) → SpellsEach between Spells ts parts → AllByRecursion IsOwnPart parts
 each-part between Spells own ts [] each = absurd each
 each-part between Spells own ts (x ∷ []) each = (own ts x each, tt)
 each-part between Spells own ts (x ∷ y ∷ xs) (front, behind, split, first, others) = (own front x first, each-part between Spells own behind (y ∷ xs) others)
