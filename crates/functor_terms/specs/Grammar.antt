@@ -21,11 +21,11 @@
 -- SpellsBase    == they spell weights or an atom; SpellsPrefix .. SpellsSum the other forms
 -- SpellsInside  == they spell a term that may stand in n parentheses
 -- SpellsTerm    == a text spells the term
--- OneTerm       == no text spells two terms
+-- OneTerm       == no text spells two terms; OnlyTerms == what a text spells is a term
 use Rattle.std.specs.Prelude.{◌≡◌, ℕ, zero, suc, ◌≤◌, List, [], ◌∷◌, ◌++◌, length, Option, Some, None, ◌⊎◌}
 use Rattle.std.specs.Str.Parse.{digits_value}
 use Rattle.functor_terms.specs.Signs.{signs}
-use Rattle.functor_terms.specs.Terms.{Nodes, Part, AreLabels, over, placed, node_limit, depth_limit}
+use Rattle.functor_terms.specs.Terms.{Nodes, Part, IsTerm, AreLabels, over, placed, node_limit, depth_limit}
 use Rattle.functor_terms.specs.declared.node.LabelSet.{LabelSet}
 use Rattle.functor_terms.specs.declared.node.LabelSet.TheVariants.{Listed, Below}
 use Rattle.functor_terms.specs.declared.node.Node.{Node}
@@ -155,3 +155,7 @@ pub record SpellsTerm (text : List ℕ) (t : Nodes) : Type 0 where
 -- no text spells two terms
 abbrev pub OneTerm : Type 0
 OneTerm = (text : List ℕ) (t u : Nodes) → SpellsTerm text t → SpellsTerm text u → t ≡ u
+
+-- what a text spells is a term
+abbrev pub OnlyTerms : Type 0
+OnlyTerms = (text : List ℕ) (t : Nodes) → SpellsTerm text t → IsTerm t

@@ -11,6 +11,7 @@ mod copies;
 mod fault;
 mod label_set;
 mod labels;
+mod laws;
 mod node;
 mod part;
 mod reading;
@@ -21,6 +22,7 @@ mod tests;
 
 pub use fault::{PartFault, TermFault};
 pub use labels::Labels;
+pub use laws::{one_reading, texts_are_read_back};
 pub use node::{Branch, LabelSet, Node};
 pub use part::TermPart;
 pub use reading::read_term;
