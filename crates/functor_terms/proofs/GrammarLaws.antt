@@ -1,24 +1,24 @@
 -- Terms are read exactly where they are spelled.
-use Rattle.std.proofs.Common.{◌≡◌, ℕ, zero, suc, ◌+◌, ◌<◌, ◌≤◌, max, List, [], ◌∷◌, ◌++◌, length, Option, Some, None, Bool, true, false, ◌&&◌, cond, refl, sym, ap, ◌∙◌, subst, append_assoc, append-nil, arith, length-append, inl, inr}
-use Rattle.std.specs.Prelude.{option_and_then, nat_lt, nat_le, if◌then◌else◌}
+use Rattle.std.proofs.Common.{◌≡◌, ℕ, zero, suc, ◌+◌, ◌<◌, ◌≤◌, max, List, [], ◌∷◌, ◌++◌, length, Option, Some, None, Bool, true, false, cond, refl, sym, ap, ◌∙◌, subst, append_assoc, arith, length-append, inl, inr}
+use Rattle.std.specs.Prelude.{option_and_then, nat_lt}
 use Rattle.std.specs.Option.{option_map_or}
 use Rattle.std.proofs.lemmas.Bool.Decides.{nat_tests}
 use Rattle.functor_terms.specs.declared.node.LabelSet.{LabelSet}
 use Rattle.functor_terms.specs.declared.node.Node.{Node}
-use Rattle.functor_terms.specs.declared.node.Node.TheVariants.{Constant, Product, Sum, Power}
+use Rattle.functor_terms.specs.declared.node.Node.TheVariants.{Constant, Power}
 use Rattle.functor_terms.specs.declared.sign.Sign.{Sign}
-use Rattle.functor_terms.specs.declared.sign.Sign.TheVariants.{Plus, Times, Caret, Open, Close, OpenBrace, Digits}
+use Rattle.functor_terms.specs.declared.sign.Sign.TheVariants.{Caret, Open, Close, OpenBrace, Digits}
 use Rattle.functor_terms.specs.Terms.{Part, over, nodes_of, deepest, node_limit, depth_limit}
 use Rattle.functor_terms.specs.Signs.{is_plus, is_times, is_caret, is_open, is_close}
-use Rattle.functor_terms.specs.Grammar.{prefix_of, weights_of, letter_of, powers, SpellsEach, SpellsLabels, SpellsExponents, SpellsBase, SpellsPrefix, SpellsPower, SpellsChain, SpellsProduct, SpellsSum, SpellsInside}
+use Rattle.functor_terms.specs.Grammar.{prefix_of, weights_of, letter_of, powers, SpellsEach, SpellsLabels, SpellsExponents, SpellsBase, SpellsChain}
 use Rattle.functor_terms.specs.Grammar.SpellsLabels.{below, listed}
 use Rattle.functor_terms.specs.Grammar.SpellsBase.{weights, letter, constant, group}
-use Rattle.functor_terms.specs.Reading.{Reads, behind_sign, ended, are_small, made_over, items_from, labels_at, raised, powers_from, chain_over, is_few, chain_at, group_at, weights_at, constant_at, atom_at, weighed, behind_power, base_at, over_read, prefix_at, power_at, product_at, sum_at, inside_at}
+use Rattle.functor_terms.specs.Reading.{Reads, behind_sign, ended, are_small, made_over, items_from, labels_at, raised, powers_from, chain_over, is_few, chain_at, group_at, weights_at, constant_at, atom_at, weighed, behind_power, base_at}
 use Rattle.functor_terms.proofs.OverLaws.{nodes-append}
-use Rattle.functor_terms.proofs.SignTests.{IsTestOf, plus_test, times_test, caret_test, open_test, close_test, behind_is, weights-no_prefix, letter-no_prefix}
-use Rattle.functor_terms.proofs.PartLaws.{IsOwnPart, own-depth, product-part, power-part, prefix-part, inside-part, each-few}
-use Rattle.functor_terms.proofs.ItemLaws.{parts_of, Found, found_as, IsSound, IsComplete, and_then_of, ended_of, ended_at, FoundItems, items-sound, Join, items-complete}
-use Rattle.functor_terms.proofs.LabelLaws.{both, both_true, each_some, labels-sound, labels-complete}
+use Rattle.functor_terms.proofs.SignTests.{IsTestOf, caret_test, open_test, close_test, behind_is, weights-no_prefix, letter-no_prefix}
+use Rattle.functor_terms.proofs.PartLaws.{IsOwnPart, each-few}
+use Rattle.functor_terms.proofs.ItemLaws.{parts_of, Found, found_as, IsSound, IsComplete, and_then_of, ended_of, FoundItems, items-sound, Join, items-complete}
+use Rattle.functor_terms.proofs.LabelLaws.{both, both_true, labels-sound, labels-complete}
 
 -- a part within the bounds of terms
 abbrev pub IsBounded : Part → Type 0
@@ -75,9 +75,10 @@ made_at node parts x rest made bounded =
 pub bounded-child : (node : Node) (child x : Part) → x ≡ over node (child ∷ []) → IsBounded x → IsBounded child
 bounded-child node child x made (shallow, few) =
     let depth : x.1 ≡ max child.1 0 + 1 = ap (λ (p : Part). p.1) made in
-    let size : length x.0 ≡ suc (length (child.0 ++ [])) = ap (λ (p : Part). length p.0) made in
-    (let low : x.1 ≤ 32 = shallow in let goal : child.1 ≤ 32 = omega (arith, low, depth) in goal,
-    let less : length x.0 ≤ 256 = few in let goal : length child.0 ≤ 256 = omega (arith, less, size, length-append child.0 []) in goal)
+    let size : length x.0 ≡ suc (length (child.0 ++ [])) = ap (λ (p : Part). length p.0) made in (
+      let low : x.1 ≤ 32 = shallow in let goal : child.1 ≤ 32 = omega (arith, low, depth) in goal,
+      let less : length x.0 ≤ 256 = few in let goal : length child.0 ≤ 256 = omega (arith, less, size, length-append child.0 []) in goal,
+    )
 
 pub child-shallower : (d : ℕ) (node : Node) (child x : Part) → x ≡ over node (child ∷ []) → x.1 ≤ suc d → child.1 ≤ d
 child-shallower d node child x made fits = let depth : x.1 ≡ max child.1 0 + 1 = ap (λ (p : Part). p.1) made in omega (arith, depth, fits)
@@ -171,9 +172,10 @@ powers-complete (suc n) base front (labels ∷ others) rest (ahead, behind, spli
     let part : Part = over (Power labels) (base ∷ []) in
     let depth = powers-depth (over (Power labels) (base ∷ [])) others in
     let size = powers-size (over (Power labels) (base ∷ [])) others in
-    let small : IsBounded (over (Power labels) (base ∷ [])) =
-    (let low : (powers base (labels ∷ others)).1 ≤ 32 = bounded.0 in let goal : (over (Power labels) (base ∷ [])).1 ≤ 32 = omega (arith, low, depth) in goal,
-    let few : length (powers base (labels ∷ others)).0 ≤ 256 = bounded.1 in let goal : length (over (Power labels) (base ∷ [])).0 ≤ 256 = omega (arith, few, size) in goal) in
+    let small : IsBounded (over (Power labels) (base ∷ [])) = (
+      let low : (powers base (labels ∷ others)).1 ≤ 32 = bounded.0 in let goal : (over (Power labels) (base ∷ [])).1 ≤ 32 = omega (arith, low, depth) in goal,
+      let few : length (powers base (labels ∷ others)).0 ≤ 256 = bounded.1 in let goal : length (over (Power labels) (base ∷ [])).0 ≤ 256 = omega (arith, few, size) in goal,
+    ) in
     ap (powers_from (suc n) base) regrouped
     ∙ ap (λ r. option_and_then (λ p. powers_from n p.0 p.1) (option_and_then (λ p. made_over (Power p.0) (base ∷ []) p.1) r)) (labels-complete ahead labels (behind ++ rest) here tt)
     ∙ ap (option_and_then (λ p. powers_from n p.0 p.1)) (made_at (Power labels) (base ∷ []) (over (Power labels) (base ∷ [])) (behind ++ rest) refl small)
@@ -191,9 +193,13 @@ each-within between Spells d ts [] budget shallow few each = each
 each-within between Spells d ts (x ∷ []) budget shallow few each =
     (each, omega (arith, budget), (let low : x.1 ≤ 32 = omega (arith, shallow) in low, let less : length x.0 ≤ 256 = omega (arith, few, length-append x.0 []) in less))
 each-within between Spells d ts (x ∷ y ∷ xs) budget shallow few (front, behind, split, first, others) =
-    let sizes = length-append x.0 (nodes_of (y ∷ xs)) in
-    (front, behind, split, (first, omega (arith, budget), (let low : x.1 ≤ 32 = omega (arith, shallow) in low, let less : length x.0 ≤ 256 = omega (arith, few, sizes) in less)),
-    each-within between Spells d behind (y ∷ xs) (omega (arith, budget)) (omega (arith, shallow)) (omega (arith, few, sizes)) others)
+    let sizes = length-append x.0 (nodes_of (y ∷ xs)) in (
+      front,
+      behind,
+      split,
+      (first, omega (arith, budget), (let low : x.1 ≤ 32 = omega (arith, shallow) in low, let less : length x.0 ≤ 256 = omega (arith, few, sizes) in less)),
+      each-within between Spells d behind (y ∷ xs) (omega (arith, budget)) (omega (arith, shallow)) (omega (arith, few, sizes)) others,
+    )
 
 module _ (node : Node) (goes_on : Sign → Bool) (between : Sign) (test : IsTestOf goes_on between) (item : Reads Part) (Spells : List Sign → Part → Type 0) where
   chain-found : (ts : List Sign) (items : List Part) (behind : List Sign) (x : Part) (rest : List Sign) → FoundItems item goes_on between test is_few (Bounded Spells) (λ _. Unit {0}) node_limit [] ts items behind → chain_over node items behind ≡ Some (x, rest) → Found (Bounded (SpellsChain between node Spells)) ts x rest

@@ -1,26 +1,26 @@
 -- Labels are read exactly where they are spelled.
-use Rattle.std.proofs.Common.{◌≡◌, ℕ, zero, suc, ◌+◌, ◌<◌, ◌≤◌, ◌^◌, List, [], ◌∷◌, ◌++◌, length, Option, Some, None, Bool, true, false, not, ◌&&◌, ◌||◌, cond, refl, sym, ap, ◌∙◌, subst, append_assoc, arith, length-append, true≢false}
-use Rattle.std.specs.Prelude.{is_some, is_none, nat_lt, nat_le, option_and_then, if◌then◌else◌}
+use Rattle.std.proofs.Common.{◌≡◌, ℕ, ◌<◌, ◌≤◌, List, [], ◌∷◌, ◌++◌, length, Option, Some, None, Bool, true, false, not, ◌&&◌, ◌||◌, cond, refl, sym, ap, ◌∙◌, subst, append_assoc, arith, true≢false}
+use Rattle.std.specs.Prelude.{is_some, is_none, nat_lt, nat_le, option_and_then}
 use Rattle.std.specs.List.{AllByRecursion, IsDistinct, list_any, list_all}
 use Rattle.std.specs.Str.Parse.{digits_value}
 use Rattle.std.proofs.lemmas.Bool.Decides.{nat_tests}
 use Rattle.std.proofs.lemmas.Slice.Eq.{bytes_eq-Decides}
-use Rattle.file_cut.specs.Bytes.{IsName, IsWord, is_word_byte, inj_word}
+use Rattle.file_cut.specs.Bytes.{IsName, is_word_byte, inj_word}
 use Rattle.file_cut.specs.Tokens.{is_inj}
 use Rattle.functor_terms.specs.declared.node.LabelSet.{LabelSet}
 use Rattle.functor_terms.specs.declared.node.LabelSet.TheVariants.{Listed, Below}
 use Rattle.functor_terms.specs.declared.sign.Sign.{Sign}
 use Rattle.functor_terms.specs.declared.sign.Sign.TheVariants.{Comma, OpenBrace, CloseBrace, Digits, Word}
-use Rattle.functor_terms.specs.Words.{is_same_word, place_of, AreNames}
+use Rattle.functor_terms.specs.Words.{is_same_word, place_of}
 use Rattle.functor_terms.specs.Terms.{AreLabels, label_limit}
 use Rattle.functor_terms.specs.Signs.{is_comma, is_brace_end}
 use Rattle.functor_terms.specs.Grammar.{SpellsEach, SpellsWord, SpellsLabels}
 use Rattle.functor_terms.specs.Grammar.SpellsLabels.{below, listed}
-use Rattle.functor_terms.specs.Reading.{Reads, word_at, words_at, is_name, is_new_name, ended, braces_at, below_at, labels_at, items_from}
+use Rattle.functor_terms.specs.Reading.{word_at, words_at, is_name, is_new_name, ended, braces_at, below_at, labels_at}
 use Rattle.functor_terms.proofs.NamesLemmas.{all-push, apart}
 use Rattle.functor_terms.proofs.WordLemmas.{place-any}
 use Rattle.functor_terms.proofs.SignTests.{comma_test, brace_end_test}
-use Rattle.functor_terms.proofs.ItemLaws.{parts_of, Found, found_as, IsSound, IsComplete, and_then_of, ended_of, ended_at, FoundItems, items-sound, Join, items-complete}
+use Rattle.functor_terms.proofs.ItemLaws.{parts_of, Found, IsSound, IsComplete, and_then_of, ended_of, ended_at, items-sound, Join, items-complete}
 
 -- both of two tests
 pub both : (a b : Bool) → (a && b) ≡ true → (a ≡ true) × (b ≡ true)
@@ -90,9 +90,10 @@ names-push words word ts (distinct, each) e spelled =
 names-join : (words more : List (List ℕ)) → IsDistinct is_same_word (words ++ more) → AllByRecursion IsName (words ++ more) → Join word_at is_comma Comma comma_test is_new_name words more
 names-join words [] distinct each = tt
 names-join words (x ∷ xs) distinct each =
-    let regrouped : words ++ x ∷ xs ≡ (words ++ x ∷ []) ++ xs = sym (append_assoc words (x ∷ []) xs) in
-    (both_true (is_name x) (is_none (place_of x words)) (name-is_name x (all_first IsName words xs x each)) (new-apart words x ∙ ap not (distinct-new words xs x distinct)),
-    names-join (words ++ x ∷ []) xs (subst (λ (l : List (List ℕ)). IsDistinct is_same_word l) regrouped distinct) (subst (λ (l : List (List ℕ)). AllByRecursion IsName l) regrouped each))
+    let regrouped : words ++ x ∷ xs ≡ (words ++ x ∷ []) ++ xs = sym (append_assoc words (x ∷ []) xs) in (
+      both_true (is_name x) (is_none (place_of x words)) (name-is_name x (all_first IsName words xs x each)) (new-apart words x ∙ ap not (distinct-new words xs x distinct)),
+      names-join (words ++ x ∷ []) xs (subst (λ (l : List (List ℕ)). IsDistinct is_same_word l) regrouped distinct) (subst (λ (l : List (List ℕ)). AllByRecursion IsName l) regrouped each),
+    )
 
 word-sound : IsSound word_at SpellsWord
 word-sound [] x rest e = cc
@@ -120,8 +121,10 @@ words-sound ts words rest e =
     record {
       front = found.front;
       split = found.split;
-      spelled = (subst (λ (l : List (List ℕ)). SpellsEach Comma SpellsWord found.front l) (sym found.items_are) found.each,
-          (record { distinct = found.kept.0; each = found.kept.1; few = omega (arith, few, same) }, omega (arith, some, same), let fits : length words ≤ 65536 = omega (arith, few, same) in fits));
+      spelled = (
+        subst (λ (l : List (List ℕ)). SpellsEach Comma SpellsWord found.front l) (sym found.items_are) found.each,
+        (record { distinct = found.kept.0; each = found.kept.1; few = omega (arith, few, same) }, omega (arith, some, same), let fits : length words ≤ 65536 = omega (arith, few, same) in fits),
+      );
     }
 
 words-complete : (front : List Sign) (words : List (List ℕ)) (rest : List Sign) → SpellsEach Comma SpellsWord front words → AreLabels (Listed words) → words_at (front ++ CloseBrace ∷ rest) ≡ Some (words, CloseBrace ∷ rest)

@@ -1,12 +1,12 @@
 -- What is spelled with n parentheses open at most is spelled with more.
-use Rattle.std.proofs.Common.{◌≡◌, ℕ, zero, suc, ◌+◌, ◌≤◌, List, [], ◌∷◌, ◌++◌, length, refl, sym, ap, ◌∙◌, subst, arith, append-nil, append_assoc, inl, inr}
+use Rattle.std.proofs.Common.{◌≡◌, ℕ, zero, suc, ◌+◌, List, [], ◌∷◌, ◌++◌, refl, sym, ap, ◌∙◌, subst, arith, append-nil, append_assoc, inl, inr}
 use Rattle.functor_terms.specs.declared.node.LabelSet.{LabelSet}
 use Rattle.functor_terms.specs.declared.node.Node.{Node}
 use Rattle.functor_terms.specs.declared.node.Node.TheVariants.{Power}
 use Rattle.functor_terms.specs.declared.sign.Sign.{Sign}
 use Rattle.functor_terms.specs.declared.sign.Sign.TheVariants.{Plus, Times, Caret}
 use Rattle.functor_terms.specs.Terms.{Part, over}
-use Rattle.functor_terms.specs.Grammar.{SpellsEach, SpellsLabels, SpellsExponents, powers, SpellsBase, SpellsPrefix, SpellsPower, SpellsChain, SpellsProduct, SpellsSum, SpellsInside}
+use Rattle.functor_terms.specs.Grammar.{SpellsLabels, SpellsExponents, powers, SpellsBase, SpellsPrefix, SpellsPower, SpellsChain, SpellsProduct, SpellsSum, SpellsInside}
 use Rattle.functor_terms.specs.Grammar.SpellsBase.{weights, letter, constant, group}
 use Rattle.functor_terms.proofs.GrammarLaws.{each-weaker}
 
@@ -85,8 +85,13 @@ powers-push base [] labels = refl
 powers-push base (first ∷ others) labels = powers-push (over (Power first) (base ∷ [])) others labels
 
 pub power-push : (Inside : List Sign → Part → Type 0) (ts back : List Sign) (x : Part) (labels : LabelSet) → SpellsPower Inside ts x → SpellsLabels back labels → SpellsPower Inside (ts ++ Caret ∷ back) (over (Power labels) (x ∷ []))
-power-push Inside ts back x labels (front, rest, base, exponents, split, spelled, raised, made) here =
-    (front, rest ++ Caret ∷ back, base, exponents ++ labels ∷ [],
-    ap (λ l. l ++ Caret ∷ back) split ∙ append_assoc front rest (Caret ∷ back), spelled,
-    exponents-push rest back exponents labels raised here,
-    ap (λ (p : Part). over (Power labels) (p ∷ [])) made ∙ sym (powers-push base exponents labels))
+power-push Inside ts back x labels (front, rest, base, exponents, split, spelled, raised, made) here = (
+  front,
+  rest ++ Caret ∷ back,
+  base,
+  exponents ++ labels ∷ [],
+  ap (λ l. l ++ Caret ∷ back) split ∙ append_assoc front rest (Caret ∷ back),
+  spelled,
+  exponents-push rest back exponents labels raised here,
+  ap (λ (p : Part). over (Power labels) (p ∷ [])) made ∙ sym (powers-push base exponents labels),
+)

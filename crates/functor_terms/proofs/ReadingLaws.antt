@@ -1,21 +1,21 @@
 -- Whole lines are read exactly where they are spelled, and no line spells two terms.
-use Rattle.std.proofs.Common.{◌≡◌, ℕ, zero, suc, ◌+◌, ◌<◌, ◌≤◌, max, List, [], ◌∷◌, ◌++◌, length, Option, Some, None, refl, sym, ap, ◌∙◌, subst, append_assoc, append-nil, arith, length-append, inl, inr}
+use Rattle.std.proofs.Common.{◌≡◌, ℕ, zero, suc, ◌+◌, ◌<◌, ◌≤◌, max, List, [], ◌∷◌, ◌++◌, length, Option, Some, None, refl, sym, ap, ◌∙◌, subst, append_assoc, append-nil, arith, inl, inr}
 use Rattle.std.specs.Prelude.{option_and_then}
 use Rattle.std.specs.Option.{option_map_or}
 use Rattle.functor_terms.specs.declared.node.LabelSet.{LabelSet}
 use Rattle.functor_terms.specs.declared.node.Node.{Node}
 use Rattle.functor_terms.specs.declared.node.Node.TheVariants.{Constant, Product, Sum}
 use Rattle.functor_terms.specs.declared.sign.Sign.{Sign}
-use Rattle.functor_terms.specs.declared.sign.Sign.TheVariants.{Plus, Times, Caret, Open, Close, OpenBrace, CloseBrace, Digits}
-use Rattle.functor_terms.specs.Terms.{Nodes, Part, over, placed, node_limit, depth_limit}
-use Rattle.functor_terms.specs.Signs.{is_plus, is_times, is_caret, is_open, is_close, signs}
+use Rattle.functor_terms.specs.declared.sign.Sign.TheVariants.{Plus, Times, Caret, Open, Close}
+use Rattle.functor_terms.specs.Terms.{Nodes, Part, over, placed, depth_limit}
+use Rattle.functor_terms.specs.Signs.{is_plus, is_times, is_open, is_close, signs}
 use Rattle.functor_terms.specs.Grammar.{prefix_of, weights_of, letter_of, powers, SpellsLabels, SpellsExponents, SpellsBase, SpellsPrefix, SpellsPower, SpellsProduct, SpellsSum, SpellsInside, SpellsTerm, OneTerm, open_limit}
 use Rattle.functor_terms.specs.Grammar.SpellsLabels.{below, listed}
 use Rattle.functor_terms.specs.Grammar.SpellsBase.{weights, letter, constant, group}
-use Rattle.functor_terms.specs.Reading.{Reads, behind_sign, ended, made_over, labels_at, powers_from, group_at, weights_at, constant_at, atom_at, weighed, behind_power, base_at, over_read, prefix_at, power_at, product_at, sum_at, inside_at, whole, part_at}
+use Rattle.functor_terms.specs.Reading.{Reads, behind_sign, ended, made_over, powers_from, group_at, constant_at, atom_at, weighed, behind_power, base_at, over_read, prefix_at, power_at, product_at, sum_at, inside_at, whole, part_at}
 use Rattle.functor_terms.proofs.SignTests.{plus_test, times_test, close_test}
-use Rattle.functor_terms.proofs.PartLaws.{IsOwnPart, own-depth, prefix-part, power-part, product-part, sum-part, inside-part}
-use Rattle.functor_terms.proofs.ItemLaws.{parts_of, Found, found_as, IsSound, IsComplete, and_then_of, ended_at}
+use Rattle.functor_terms.proofs.PartLaws.{IsOwnPart, own-depth, prefix-part, power-part, product-part, inside-part}
+use Rattle.functor_terms.proofs.ItemLaws.{Found, IsSound, IsComplete, and_then_of, ended_at}
 use Rattle.functor_terms.proofs.LabelLaws.{labels-complete}
 use Rattle.functor_terms.proofs.GrammarLaws.{IsBounded, Bounded, Within, AfterBase, AfterPower, AfterProduct, AfterSum, made_of, made_at, bounded-child, child-shallower, base-none, base-no_prefix, powers-sound, powers-depth, powers-size, powers-complete, chain-sound, chain-complete, base-sound}
 

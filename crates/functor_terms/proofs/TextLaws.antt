@@ -1,5 +1,5 @@
 -- The canonical text of a term spells it, and opens no more parentheses than any text of the term.
-use Rattle.std.proofs.Common.{◌≡◌, ℕ, zero, suc, ◌+◌, ◌<◌, ◌≤◌, ◌-◌, ◌⊎◌, List, [], ◌∷◌, ◌++◌, length, map, Option, Some, None, Bool, true, false, cond, refl, sym, ap, ◌∙◌, subst, append_assoc, append-nil, arith, inl, inr}
+use Rattle.std.proofs.Common.{◌≡◌, ℕ, zero, suc, ◌+◌, ◌<◌, ◌≤◌, ◌-◌, ◌⊎◌, List, [], ◌∷◌, ◌++◌, map, Some, Bool, true, false, refl, sym, ap, ◌∙◌, subst, append_assoc, append-nil, arith, inl, inr}
 use Rattle.std.specs.Prelude.{codes, nat_le, if◌then◌else◌}
 use Rattle.std.specs.Char.{is_ascii_digit}
 use Rattle.std.specs.List.{AllByRecursion, flat_map, join_by}
@@ -9,17 +9,17 @@ use Rattle.functor_terms.specs.declared.node.Node.{Node}
 use Rattle.functor_terms.specs.declared.node.Node.TheVariants.{State, Constant, Naturals, Product, Sum, Power, Powerset, Bag, Distribution, Integers, Rationals}
 use Rattle.functor_terms.specs.declared.sign.Sign.{Sign}
 use Rattle.functor_terms.specs.declared.sign.Sign.TheVariants.{X, P, B, D, N, Z, Q, Plus, Times, Caret, Open, Close}
-use Rattle.functor_terms.specs.Terms.{Nodes, Part, AreLabels, placed, over, fold}
+use Rattle.functor_terms.specs.Terms.{Part, AreLabels, placed, over}
 use Rattle.functor_terms.specs.Signs.{outside, begins, signs, signs_at}
-use Rattle.functor_terms.specs.Grammar.{prefix_of, weights_of, letter_of, powers, SpellsEach, SpellsLabels, SpellsExponents, SpellsBase, SpellsPrefix, SpellsPower, SpellsChain, SpellsProduct, SpellsSum, SpellsInside, SpellsTerm, open_limit}
+use Rattle.functor_terms.specs.Grammar.{prefix_of, weights_of, letter_of, powers, SpellsEach, SpellsExponents, SpellsBase, SpellsPrefix, SpellsPower, SpellsProduct, SpellsSum, SpellsInside, open_limit}
 use Rattle.functor_terms.specs.Grammar.SpellsBase.{weights, letter, constant, group}
-use Rattle.functor_terms.specs.Text.{Shown, shown, prefix_level, power_level, product_level, sum_level, level_of, enclosed, within, label_text, only, node_text, shown_over, shown_at, text_of_term, TextsAreReadBack}
+use Rattle.functor_terms.specs.Text.{Shown, shown, prefix_level, power_level, sum_level, level_of, enclosed, within, label_text, node_text, shown_over, shown_at, text_of_term, TextsAreReadBack}
 use Rattle.functor_terms.proofs.TermLaws.{IsBlock, part-block}
-use Rattle.functor_terms.proofs.PartFolds.{fold_part, fold-over}
+use Rattle.functor_terms.proofs.PartFolds.{fold-over}
 use Rattle.functor_terms.proofs.PartLaws.{IsOwnPart, over-own, labels-are, each-part, base-part, prefix-part, power-part, product-part, sum-part, inside-part}
 use Rattle.functor_terms.proofs.GrammarLaws.{base-none}
 use Rattle.functor_terms.proofs.MonotoneLaws.{inside-more, SpellsLevel, level-more, level-up, power-push}
-use Rattle.functor_terms.proofs.TextTokens.{Lexes, lexes-append, lexes-enclosed, LabelTokens, labels-shown}
+use Rattle.functor_terms.proofs.TextTokens.{Lexes, lexes-append, lexes-enclosed, labels-shown}
 
 -- how a part is shown
 abbrev shown_part : Part → Shown
@@ -81,9 +81,11 @@ inner-spelled : (n : ℕ) (x : Part) → Grouped n x → (tokens : List Sign) ×
 unfolding SpellsInside
 inner-spelled n x (k, same, good) =
     let low : good.seen.level ≤ 3 = good.low in
-    let sums : 3 - good.seen.level + good.seen.level ≡ 3 = omega (arith, low) in
-    (good.tokens, subst (λ l. Lexes l good.tokens) (ap (λ (s : Shown). s.text) (sym good.is)) good.lexes,
-    subst (λ m. SpellsInside m good.tokens x) (sym same) (level-up (SpellsInside k) good.seen.level 3 (3 - good.seen.level) sums good.tokens x good.spelled))
+    let sums : 3 - good.seen.level + good.seen.level ≡ 3 = omega (arith, low) in (
+      good.tokens,
+      subst (λ l. Lexes l good.tokens) (ap (λ (s : Shown). s.text) (sym good.is)) good.lexes,
+      subst (λ m. SpellsInside m good.tokens x) (sym same) (level-up (SpellsInside k) good.seen.level 3 (3 - good.seen.level) sums good.tokens x good.spelled),
+    )
 
 within-is : (level : ℕ) (child : Shown) (b : Bool) → nat_le child.level level ≡ b → within level child ≡ (if b then child.text else enclosed child.text)
 within-is level child b e = ap (λ c. if c then child.text else enclosed child.text) e
@@ -130,9 +132,10 @@ level-low _ = let goal : 0 ≤ 3 = omega arith in goal
 build : (n : ℕ) (node : Node) (parts : List Part) → AllByRecursion IsOwnPart parts → IsOwnPart (over node parts) → (tokens : List Sign) → Lexes (node_text node (map shown_part parts)) tokens → SpellsLevel (SpellsInside n) (level_of node) tokens (over node parts) → Fine (level_of node) n (over node parts)
 build n node parts each own tokens lexes spelled =
     let is = shown-node node parts each in
-    let level : (shown_part (over node parts)).level ≡ level_of node = ap (λ (s : Shown). s.level) is in
-    (record { own = own; seen = shown_over node (map shown_part parts); is = is; low = level-low node; tokens = tokens; lexes = lexes; spelled = spelled },
-    inl (omega (arith, level)))
+    let level : (shown_part (over node parts)).level ≡ level_of node = ap (λ (s : Shown). s.level) is in (
+      record { own = own; seen = shown_over node (map shown_part parts); is = is; low = level-low node; tokens = tokens; lexes = lexes; spelled = spelled },
+      inl (omega (arith, level)),
+    )
 
 -- Prefixes, weights and letters.
 prefix-fine : (n : ℕ) (t : Sign) (node : Node) (child : Part) → prefix_of t ≡ Some node → IsOwnPart child → IsOwnPart (over node (child ∷ [])) → Stood 0 n child → Fine 0 n (over node (child ∷ []))

@@ -1,19 +1,19 @@
 -- The tokens of the pieces of canonical texts.
-use Rattle.std.proofs.Common.{◌≡◌, ℕ, zero, suc, ◌+◌, ◌<◌, ◌≤◌, ◌^◌, List, [], ◌∷◌, ◌++◌, length, Bool, true, false, ◌&&◌, cond, refl, sym, ap, ◌∙◌, subst, append_assoc, append-nil, arith}
-use Rattle.std.specs.Prelude.{IsTrue, codes, decimal, ◌==◌, if◌then◌else◌}
+use Rattle.std.proofs.Common.{◌≡◌, ℕ, ◌<◌, ◌≤◌, List, [], ◌∷◌, ◌++◌, length, true, false, ◌&&◌, refl, sym, ap, ◌∙◌, subst, append_assoc, append-nil, arith}
+use Rattle.std.specs.Prelude.{codes, decimal, ◌==◌, if◌then◌else◌}
 use Rattle.std.specs.Char.{is_ascii_digit}
 use Rattle.std.specs.List.{AllByRecursion, list_all, flat_map, join_by}
 use Rattle.std.specs.Str.Parse.{AllDigits, digits_value}
 use Rattle.std.proofs.lemmas.Bool.Decides.{nat_tests}
 use Rattle.std.proofs.lemmas.Fmt.{decimal_is_IsNumeral}
 use Rattle.std.proofs.lemmas.Str.Parse.{digit_at}
-use Rattle.file_cut.specs.Bytes.{is_blank, is_word_byte, IsWord, IsName}
+use Rattle.file_cut.specs.Bytes.{is_blank, is_word_byte, IsName}
 use Rattle.file_cut.proofs.TokenLaws.{blank_ends}
 use Rattle.functor_terms.specs.declared.node.LabelSet.{LabelSet}
 use Rattle.functor_terms.specs.declared.node.LabelSet.TheVariants.{Listed, Below}
 use Rattle.functor_terms.specs.declared.sign.Sign.{Sign}
 use Rattle.functor_terms.specs.declared.sign.Sign.TheVariants.{Open, Close, Times, Comma, OpenBrace, CloseBrace, Digits, Word, Stray}
-use Rattle.functor_terms.specs.Terms.{AreLabels, label_limit}
+use Rattle.functor_terms.specs.Terms.{AreLabels}
 use Rattle.functor_terms.specs.Signs.{outside, inside, second, begins, digit_before, letter_before, sign_of, sign_outside, sign_inside, signs_at, cross_first, cross_second, brace, brace_end, comma, Place}
 use Rattle.functor_terms.specs.Grammar.{SpellsEach, SpellsWord, SpellsLabels}
 use Rattle.functor_terms.specs.Grammar.SpellsLabels.{below, listed}

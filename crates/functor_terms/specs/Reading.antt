@@ -1,6 +1,18 @@
 -- Reading terms from tokens, from left to right: what the functions that read terms compute. Only
--- private clauses cite it. That it agrees with what a text spells is proved.
-use Rattle.std.specs.Prelude.{◌≡◌, ℕ, zero, suc, List, [], ◌∷◌, ◌++◌, length, Bool, true, false, ◌&&◌, not, nat_lt, nat_le, Option, Some, None, option_map, option_and_then, is_none, if◌then◌else◌, Result, Ok, Err}
+-- private clauses cite it. That it agrees with what a text spells is proved. A limit is tested where
+-- it may first be passed, so what is read never grows past the limits.
+--
+-- Reads       == what stands at the front of tokens, and the tokens behind it
+-- made_over   == a node over parts that are small enough
+-- items_from  == items with a sign between each two, behind those that were read before
+-- labels_at   == the labels of a constant or an exponent
+-- powers_from == a base to the power of the exponents that follow
+-- chain_at    == the only part of a chain, or the node over its parts
+-- atom_at, base_at, prefix_at, power_at, product_at, sum_at == the forms of the grammar
+-- inside_at   == what stands in parentheses
+-- part_at     == the part that all the tokens spell
+-- Gives       == a function answered what reading gives, unless memory ran out
+use Rattle.std.specs.Prelude.{◌≡◌, ℕ, zero, suc, List, [], ◌∷◌, ◌++◌, length, Bool, ◌&&◌, not, nat_lt, nat_le, Option, Some, None, option_map, option_and_then, is_none, if◌then◌else◌, Result, Ok, Err}
 use Rattle.std.specs.List.{list_all}
 use Rattle.std.specs.Option.{option_map_or}
 use Rattle.std.specs.Str.Parse.{digits_value}
@@ -8,7 +20,7 @@ use Rattle.file_cut.specs.Bytes.{is_word_byte}
 use Rattle.file_cut.specs.Tokens.{is_inj}
 use Rattle.functor_terms.specs.Words.{place_of}
 use Rattle.functor_terms.specs.Terms.{Part, over, nodes_of, deepest, node_limit, depth_limit, label_limit}
-use Rattle.functor_terms.specs.Signs.{signs, is_plus, is_times, is_caret, is_open, is_close, is_comma, is_brace_end}
+use Rattle.functor_terms.specs.Signs.{is_plus, is_times, is_caret, is_open, is_close, is_comma, is_brace_end}
 use Rattle.functor_terms.specs.Grammar.{prefix_of, weights_of, letter_of, open_limit}
 use Rattle.functor_terms.specs.declared.fault.TermFault.{TermFault}
 use Rattle.functor_terms.specs.declared.fault.TermFault.TheVariants.{Grammar, NoMemory}
@@ -202,7 +214,9 @@ Gives (Err Grammar) read = read ≡ None
 Gives (Err NoMemory) read = Unit {0}
 
 -- the same of a list that stands in a vector
-abbrev pub GivesItems : {A V : Type 0} → (V → List A) → Result (V × List Sign) TermFault → Option (List A × List Sign) → Type 0
+abbrev pub GivesItems :
+    {A V : Type 0} → (V → List A) → Result (V × List Sign) TermFault
+    → Option (List A × List Sign) → Type 0
 GivesItems items (Ok found) read = read ≡ Some (items found.0, found.1)
 GivesItems items (Err Grammar) read = read ≡ None
 GivesItems items (Err NoMemory) read = Unit {0}

@@ -76,8 +76,8 @@ abbrev pub sign_outside : ℕ → List ℕ → (Place → List Sign) → List Si
 sign_outside b bytes behind =
     if is_blank b then behind outside
     else (if is_ascii_digit b then
-        (if begins is_ascii_digit bytes then digit_before b (behind outside)
-        else Digits (b ∷ []) ∷ behind outside)
+    (if begins is_ascii_digit bytes then digit_before b (behind outside)
+    else Digits (b ∷ []) ∷ behind outside)
     else (if (b == cross_first) && begins (λ c. c == cross_second) bytes then Times ∷ behind second
     else (if b == brace then OpenBrace ∷ behind inside
     else sign_of b ∷ behind outside)))
@@ -87,8 +87,8 @@ abbrev pub sign_inside : ℕ → List ℕ → (Place → List Sign) → List Sig
 sign_inside b bytes behind =
     if is_blank b then behind inside
     else (if is_word_byte b then
-        (if begins is_word_byte bytes then letter_before b (behind inside)
-        else Word (b ∷ []) ∷ behind inside)
+    (if begins is_word_byte bytes then letter_before b (behind inside)
+    else Word (b ∷ []) ∷ behind inside)
     else (if b == comma then Comma ∷ behind inside
     else (if b == brace_end then CloseBrace ∷ behind outside
     else Stray ∷ behind inside)))
