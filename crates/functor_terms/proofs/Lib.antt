@@ -12,5 +12,6 @@ pub mod ReadingLaws
 pub mod SignTests
 pub mod TermLaws
 pub mod TextLaws
+pub mod TextSteps
 pub mod TextTokens
 pub mod WordLemmas
