@@ -103,7 +103,7 @@ labels_at (Digits digits ∷ ts) = below_at (digits_value 10 digits) ts
 labels_at (OpenBrace ∷ ts) = braces_at ts
 labels_at _ = None
 
--- the power by an exponent of which the caret is behind us, and what follows of the power
+-- the base to the power of the exponent that stands at the front
 abbrev pub raised : Part → Reads Part
 raised base ts =
     option_and_then (λ p. made_over (Power p.0) (base ∷ []) p.1) (labels_at ts)
@@ -180,7 +180,7 @@ module _ (inside : ℕ → Reads Part) where
       option_map_or (λ node. over_read node (prefix_at d ts)) (prefix_of t)
       (base_at (inside (suc d)) (t ∷ ts))
 
-  -- such a term and its exponents
+  -- a term behind its prefixes, and its exponents
   unfoldable pub power_at : ℕ → Reads Part
   power_at d ts = option_and_then (λ p. powers_from depth_limit p.0 p.1) (prefix_at d ts)
 
@@ -213,7 +213,7 @@ Gives (Ok found) read = read ≡ Some (found.0, found.1)
 Gives (Err Grammar) read = read ≡ None
 Gives (Err NoMemory) read = Unit {0}
 
--- the same of a list that stands in a vector
+-- the same of a function that answers a list in a vector
 abbrev pub GivesItems :
     {A V : Type 0} → (V → List A) → Result (V × List Sign) TermFault
     → Option (List A × List Sign) → Type 0

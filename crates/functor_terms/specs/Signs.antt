@@ -55,7 +55,7 @@ sign_of b =
 abbrev pub cross_first : ℕ
 cross_first = 195
 
--- its second byte
+-- the second byte of the sign `×`
 abbrev pub cross_second : ℕ
 cross_second = 151
 

@@ -93,7 +93,7 @@ node_text Distribution children = codes "D " ++ within prefix_level (only childr
 node_text Integers children = codes "Z^" ++ enclosed (only children).text
 node_text Rationals children = codes "Q^" ++ enclosed (only children).text
 
--- the same, with how loosely it binds
+-- a node as it is shown over its children
 abbrev pub shown_over : Node → List Shown → Shown
 shown_over node children = shown (level_of node) (node_text node children)
 
