@@ -13,7 +13,6 @@ mod label_set;
 mod labels;
 mod node;
 mod part;
-mod reading;
 mod term;
 #[cfg(test)]
 mod tests;
@@ -22,5 +21,4 @@ pub use fault::{PartFault, TermFault};
 pub use labels::Labels;
 pub use node::{Branch, LabelSet, Node};
 pub use part::TermPart;
-pub use reading::read_term;
 pub use term::Term;
