@@ -1,6 +1,14 @@
 pub mod DigitLaws
 pub mod Folds
+pub mod ItemLaws
+pub mod LabelLaws
 pub mod NamesLemmas
 pub mod OverLaws
+pub mod PartLaws
+pub mod SignTests
 pub mod TermLaws
 pub mod WordLemmas
+pub mod FirstSign
+pub mod LoopLaws
+pub mod GiveLaws
+pub mod WordLoop

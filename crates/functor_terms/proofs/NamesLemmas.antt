@@ -26,7 +26,7 @@ length-push : {X : Type 0} (xs : List X) (x : X) → length (xs ++ x ∷ []) ≡
 length-push [] x = omega arith
 length-push (y ∷ ys) x = omega (arith, length-push ys x)
 
-all-push : {X : Type 0} (P : X → Type 0) (xs : List X) (x : X) → AllByRecursion P xs → P x → AllByRecursion P (xs ++ x ∷ [])
+pub all-push : {X : Type 0} (P : X → Type 0) (xs : List X) (x : X) → AllByRecursion P xs → P x → AllByRecursion P (xs ++ x ∷ [])
 all-push P [] x all here = (here, tt)
 all-push P (y ∷ ys) x all here = (all.0, all-push P ys x all.1 here)
 
@@ -70,7 +70,7 @@ none_some x e = cc
 some_same : {X : Type 0} (x y : X) → Some x ≡ Some y → x ≡ y
 some_same x y e = cc
 
-apart : (x y : List ℕ) → is_same_word x y ≡ false → is_same_word y x ≡ false
+pub apart : (x y : List ℕ) → is_same_word x y ≡ false → is_same_word y x ≡ false
 apart x y h = by (is_same_word y x) refl
   where
     by : (b : Bool) → is_same_word y x ≡ b → is_same_word y x ≡ false

@@ -112,7 +112,7 @@ part-deeper (suc n) zero le part is = absurd (omega (arith, le))
 part-deeper (suc n) (suc m) le part (node, parts, arity, labels, each, made) =
     (node, parts, arity, labels, all_weaker (IsPart n) (IsPart m) parts (part-deeper n m (omega (arith, le))) each, made)
 
-each-deeper : (parts : List Part) (d : ℕ) → deepest parts ≤ d → AllByRecursion (λ part. IsPart part.1 part) parts → AllByRecursion (IsPart d) parts
+pub each-deeper : (parts : List Part) (d : ℕ) → deepest parts ≤ d → AllByRecursion (λ part. IsPart part.1 part) parts → AllByRecursion (IsPart d) parts
 each-deeper [] d le each = tt
 each-deeper (x ∷ xs) d le each = (part-deeper x.1 d (omega (arith, le)) x each.0, each-deeper xs d (omega (arith, le)) each.1)
 

@@ -7,12 +7,17 @@
 //! Source: the functors of H.-P. Deifel, S. Milius, L. Schröder and T. Wißmann (2019), section 2.
 #![tactic(auto)]
 
+mod ahead;
 mod copies;
 mod fault;
+mod label_reading;
 mod label_set;
 mod labels;
+mod letters;
+mod made;
 mod node;
 mod part;
+mod sign;
 mod term;
 #[cfg(test)]
 mod tests;
