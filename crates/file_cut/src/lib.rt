@@ -21,6 +21,7 @@ mod token;
 mod tree;
 mod word;
 
+pub use bytes::{blank_len, is_word_byte, word_len};
 pub use cut::{cut_line, cut_tree};
 pub use fault::CutFault;
 pub use laws::{lines_cover, one_reading, tokens_cover};

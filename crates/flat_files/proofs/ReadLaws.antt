@@ -6,7 +6,8 @@ use Rattle.std.specs.List.{AllByRecursion, AllZip}
 use Rattle.file_cut.specs.Bytes.{line_feed, carriage_return}
 use Rattle.file_cut.specs.Lines.{Numbered, raw_lines, begun, before_first, without_return, is_skipped, numbered, lines_of}
 use Rattle.functor_terms.specs.Terms.{Nodes}
-use Rattle.functor_terms.specs.Spelling.{SpellsTerm, sets_of_states}
+use Rattle.functor_terms.specs.Spelling.{sets_of_states}
+use Rattle.flat_files.specs.Functor.{SpellsSets}
 use Rattle.flat_files.specs.declared.row.Row.{Row}
 use Rattle.flat_files.specs.Reading.{read_rows}
 use Rattle.flat_files.specs.Rows.{AreRows, IsRowOf, fault_of, IsReadAs}
@@ -85,9 +86,9 @@ some_lines : (bytes : List ℕ) (first : Numbered) (rest : List Numbered) → li
 some_lines bytes first rest is none = let e : [] ≡ first ∷ rest = sym none ∙ is in cc
 
 -- a file whose first line spells no functor has no rows, and some line
-pub not_spelled : (bytes : List ℕ) (first : Numbered) (rest : List Numbered) → lines_of bytes ≡ first ∷ rest → ((t : Nodes) → SpellsTerm first.text t → ⊥) → (lines_of bytes ≢ []) × ((rows : List Row) → AreRows bytes rows → ⊥)
+pub not_spelled : (bytes : List ℕ) (first : Numbered) (rest : List Numbered) → lines_of bytes ≡ first ∷ rest → ((t : Nodes) → SpellsSets first.text t → ⊥) → (lines_of bytes ≢ []) × ((rows : List Row) → AreRows bytes rows → ⊥)
 not_spelled bytes first rest is unspelled =
-    (some_lines bytes first rest is, (λ rows are. unspelled sets_of_states (subst (λ (l : Numbered). SpellsTerm l.text sets_of_states) (sym (first-same first are.functor rest are.others (sym is ∙ are.lines))) are.spelled)))
+    (some_lines bytes first rest is, (λ rows are. unspelled sets_of_states (subst (λ (l : Numbered). SpellsSets l.text sets_of_states) (sym (first-same first are.functor rest are.others (sym is ∙ are.lines))) are.spelled)))
 
 -- nor has one of which a later line is no row
 pub not_rows : (bytes : List ℕ) (first : Numbered) (rest : List Numbered) → lines_of bytes ≡ first ∷ rest → read_rows rest ≡ None → (lines_of bytes ≢ []) × ((rows : List Row) → AreRows bytes rows → ⊥)
@@ -95,7 +96,7 @@ not_rows bytes first rest is none =
     (some_lines bytes first rest is, (λ rows are. none_some rows (sym none ∙ rows-complete rest rows (subst (λ (l : List Numbered). AllZip IsRowOf l rows) (sym (rest-same first are.functor rest are.others (sym is ∙ are.lines))) are.each))))
 
 -- the rows of a file
-pub are_rows : (bytes : List ℕ) (first : Numbered) (rest : List Numbered) (t : Nodes) (rows : List Row) → lines_of bytes ≡ first ∷ rest → SpellsTerm first.text t → read_rows rest ≡ Some rows → AreRows bytes rows
+pub are_rows : (bytes : List ℕ) (first : Numbered) (rest : List Numbered) (t : Nodes) (rows : List Row) → lines_of bytes ≡ first ∷ rest → SpellsSets first.text t → read_rows rest ≡ Some rows → AreRows bytes rows
 are_rows bytes first rest t rows is spelled read = record {
   functor = first;
   others = rest;

@@ -1,2 +1,3 @@
+pub mod Functor
 pub mod Reading
 pub mod Rows

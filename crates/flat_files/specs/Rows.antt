@@ -18,7 +18,8 @@ use Rattle.file_cut.specs.declared.mark.Mark.{Mark}
 use Rattle.file_cut.specs.declared.mark.Mark.TheVariants.{Word, Colon, Comma, OpenBrace, CloseBrace}
 use Rattle.functor_terms.specs.Words.{is_same_word, place_of}
 use Rattle.functor_terms.specs.Terms.{Nodes}
-use Rattle.functor_terms.specs.Spelling.{SpellsTerm, sets_of_states}
+use Rattle.functor_terms.specs.Spelling.{sets_of_states}
+use Rattle.flat_files.specs.Functor.{SpellsSets}
 use Rattle.typing.specs.declared.kind.TypeKind.{TypeKind}
 use Rattle.typing.specs.declared.kind.TypeKind.TheVariants.{UnknownState, RepeatedState}
 use Rattle.typing.specs.declared.value.Value.{Value}
@@ -47,7 +48,7 @@ pub record AreRows (bytes : List ℕ) (rows : List Row) : Type 0 where
   pub functor : Numbered
   pub others : List Numbered
   pub lines : lines_of bytes ≡ functor ∷ others
-  pub spelled : SpellsTerm functor.text sets_of_states
+  pub spelled : SpellsSets functor.text sets_of_states
   pub each : AllZip IsRowOf others rows
 
 -- how many lines are ended by a line feed

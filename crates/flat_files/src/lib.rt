@@ -6,6 +6,7 @@
 #![tactic(auto)]
 
 mod fault;
+mod functor;
 mod names;
 mod reading;
 mod row;

@@ -9,12 +9,13 @@ ghost use Rattle.flat_files.specs.Rows.{AreRows, feed_count, fault_of, IsReadAs}
 ghost use Rattle.flat_files.specs.declared.row.Row.{Row as TheRow};
 
 use crate::fault::FlatFault;
+use crate::functor::read_sets;
 use crate::names::{checked_names, known_names};
 use crate::row::Row;
 use crate::rows::rows_of;
 use crate::sets::coalgebra_of;
 use file_cut::lines;
-use functor_terms::{Term, TermFault, read_term};
+use functor_terms::Term;
 use std::alloc::Global;
 use typing::Coalgebra;
 
@@ -69,10 +70,8 @@ pub fn read_flat<'a>(alloc: Global, bytes: &'a [u8]) -> Result<Coalgebra<'a>, Fl
         let line = feeds(bytes) + 1;
         return Err(FlatFault::Grammar { line });
     };
-    let term = match read_term(alloc, functor.text) {
-        Ok(term) => term,
-        Err(TermFault::Grammar) => return Err(FlatFault::NotBuilt),
-        Err(TermFault::NoMemory) => return Err(FlatFault::NoMemory),
+    let Some(term) = read_sets(alloc, functor.text)? else {
+        return Err(FlatFault::NotBuilt);
     };
     match rows_of(alloc, rest) {
         Ok(Some(rows)) => resolved(alloc, term, rows.as_slice()),

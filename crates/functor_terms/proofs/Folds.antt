@@ -7,6 +7,7 @@ use Rattle.std.specs.List.{AllByRecursion, AllZip}
 use Rattle.std.specs.Option.{option_map_or}
 use Rattle.functor_terms.specs.declared.node.Node.{Node}
 use Rattle.functor_terms.specs.declared.node.Branch.{Branch}
+use Rattle.functor_terms.specs.Lists.{Zip3}
 use Rattle.functor_terms.specs.Terms.{Nodes, IsTerm, fold_within, fold, node_at, children_at}
 use Rattle.functor_terms.proofs.TermLaws.{term-later}
 
@@ -97,12 +98,6 @@ module _ {A : Type 0} (other : A) (step : Node → List A → A) (t : Nodes) (is
       by : (o : Option Branch) → slice_get t p ≡ o → at (fold other step t) (slice_get t p) ≡ step (node_at t p) (map (fold other step t) (children_at t p))
       by None e = absurd (omega (arith, slice_get_none t p e))
       by (Some b) e = ap (at (fold other step t)) e ∙ sym (λ i. step (option_map_or (λ b. b.node) (e i) State) (map (fold other step t) (option_map_or (λ b. b.children) (e i) [])))
-
--- three lists, place by place
-abbrev pub Zip3 : {A B C : Type 0} → (A → B → C → Type 0) → List A → List B → List C → Type 0
-Zip3 R [] [] [] = Unit {0}
-Zip3 R (x ∷ xs) (y ∷ ys) (z ∷ zs) = R x y z × Zip3 R xs ys zs
-Zip3 R _ _ _ = ⊥
 
 zip3_images : {X A B C : Type 0} (R : A → B → C → Type 0) (f : X → A) (g : X → B) (h : X → C) → ((x : X) → R (f x) (g x) (h x)) → (xs : List X) → Zip3 R (map f xs) (map g xs) (map h xs)
 zip3_images R f g h k [] = tt

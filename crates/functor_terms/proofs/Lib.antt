@@ -15,3 +15,7 @@ pub mod TextLaws
 pub mod TextSteps
 pub mod TextTokens
 pub mod WordLemmas
+pub mod FirstSign
+pub mod LoopLaws
+pub mod GiveLaws
+pub mod WordLoop

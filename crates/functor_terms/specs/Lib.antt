@@ -1,7 +1,9 @@
 pub mod Words
+pub mod Lists
 pub mod Terms
 pub mod Spelling
 pub mod Signs
 pub mod Grammar
 pub mod Reading
 pub mod Text
+pub mod Ahead

@@ -24,6 +24,17 @@ impl From<AllocError> for TermFault {
     }
 }
 
+impl<T: Drop> From<AllocFailed<T>> for TermFault {
+    ghost use Rattle.functor_terms.specs.declared.fault.TermFault.TheVariants.{NoMemory};
+    ghost use Rattle.std.specs.Prelude.{◌≡◌};
+
+    ghost from_gives = { λ _ e. e ≡ NoMemory };
+
+    fn from(_: AllocFailed<T>) -> TermFault {
+        TermFault::NoMemory
+    }
+}
+
 /// Why parts gave no larger part.
 #[derive(Debug, Drop, Error)]
 pub enum PartFault {

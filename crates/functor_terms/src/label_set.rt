@@ -27,7 +27,7 @@ impl<'a> LabelSet<'a> {
 }
 
 /// The value of a word of decimal digits alone, if it is below n.
-fn number_below(n: u32, word: &[u8]) -> Option<u32>
+pub fn number_below(n: u32, word: &[u8]) -> Option<u32>
     ensures { result ≡ number_below_of n word.now }
 {
     if word.is_empty() || n == 0 {

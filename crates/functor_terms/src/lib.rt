@@ -7,14 +7,17 @@
 //! Source: the functors of H.-P. Deifel, S. Milius, L. Schröder and T. Wißmann (2019), section 2.
 #![tactic(auto)]
 
+mod ahead;
 mod copies;
 mod fault;
+mod label_reading;
 mod label_set;
 mod labels;
 mod laws;
+mod letters;
+mod made;
 mod node;
 mod part;
-mod reading;
 mod sign;
 mod term;
 #[cfg(test)]
@@ -25,5 +28,4 @@ pub use labels::Labels;
 pub use laws::{one_reading, texts_are_read_back};
 pub use node::{Branch, LabelSet, Node};
 pub use part::TermPart;
-pub use reading::read_term;
 pub use term::Term;

@@ -14,11 +14,11 @@ use std::alloc::{AllocError, Global};
 use std::marker::Model;
 
 /// The most nodes that a term may have.
-const NODE_LIMIT: usize = 256;
+pub const NODE_LIMIT: usize = 256;
 /// The greatest depth that a term may have.
-const DEPTH_LIMIT: u32 = 32;
+pub const DEPTH_LIMIT: u32 = 32;
 /// The most labels that a constant or an exponent may have.
-const LABEL_LIMIT: u32 = 65_536;
+pub const LABEL_LIMIT: u32 = 65_536;
 
 /// A term that may come to stand in a larger one.
 #[derive(Drop)]
@@ -39,7 +39,7 @@ impl<'a> Model for TermPart<'a> {
 
 impl<'a> TermPart<'a> {
     /// How many nodes there are.
-    fn len(&self) -> usize
+    pub(crate) fn len(&self) -> usize
         ensures count { result ≡ length self.now.0 }
         ensures within { IsWithin self.now }
     {

@@ -1,38 +1,11 @@
 //! What no clause says: that terms, labels and lines come out as worked by hand, with ample memory.
-use crate::{LabelSet, Node, PartFault, TermFault, TermPart, read_term};
+use crate::{LabelSet, Node, PartFault, TermPart};
 use std::alloc::Global;
 use std::test::Fail;
 
 /// The states.
 fn states<'a>(alloc: Global) -> Result<TermPart<'a>, PartFault> {
     TermPart::over(alloc, Node::State, Vec::new(alloc))
-}
-
-#[test]
-fn the_letters_p_and_x_spell_the_sets_of_states(rt: HostRuntime) -> Result<(), Fail> {
-    let alloc = rt.alloc();
-    for (text, spells) in [
-        ("P X", true),
-        ("PX", true),
-        ("\t P  X\t", true),
-        ("", false),
-        ("P", false),
-        ("X P", false),
-        ("P X X", false),
-        ("D X", false),
-    ] {
-        match read_term(alloc, text.as_bytes()) {
-            Ok(term) => {
-                assert!(rt; spells, "{text}");
-                assert_eq!(rt; term.len(), 2);
-                assert_eq!(rt; term.children(0), [1].as_slice());
-                assert_eq!(rt; term.try_copy(alloc)?.len(), 2);
-            }
-            Err(TermFault::Grammar) => assert!(rt; !spells, "{text}"),
-            Err(TermFault::NoMemory) => assert!(rt; false, "{text}"),
-        }
-    }
-    Ok(())
 }
 
 #[test]
@@ -76,5 +49,6 @@ fn parts_stand_one_behind_another(rt: HostRuntime) -> Result<(), Fail> {
     assert_eq!(rt; term.len(), 5);
     assert_eq!(rt; term.children(0), [1, 2].as_slice());
     assert_eq!(rt; term.children(2), [3, 4].as_slice());
+    assert_eq!(rt; term.try_copy(alloc)?.children(2), [3, 4].as_slice());
     Ok(())
 }

@@ -28,7 +28,7 @@ use Rattle.typing.proofs.Tests.{same_weights-Decides, weight_of-none}
 use Rattle.typing.proofs.MapLaws.{parts_map, index_map, inner_map, entries_map}
 use Rattle.typing.proofs.Coarser.{all_where}
 use Rattle.typing.proofs.NormalLaws.{IsCanonical, none_canonical, step_canonical, set_shape, product_shape, power_shape, sum_shape, weight_shape, IsWeighted, bag_weighted, distribution_weighted, integers_weighted, rationals_weighted}
-use Rattle.functor_terms.proofs.Folds.{Zip3}
+use Rattle.functor_terms.specs.Lists.{Zip3}
 use Rattle.quotient_writer.proofs.WeightSums.{AreApart, AreOwn, own, own_in, own_positive, absolute_least, joint_same}
 
 -- four lists, place by place

@@ -15,3 +15,4 @@ pub mod InOrder
 pub mod RelabelLaws
 pub mod ReadyLaws
 pub mod RelabelSteps
+pub mod Within

@@ -12,7 +12,8 @@ use Rattle.std.proofs.lemmas.List.Folds.{list_all-map}
 use Rattle.functor_terms.specs.declared.node.Node.{Node}
 use Rattle.functor_terms.specs.declared.node.Node.TheVariants.{State, Constant, Naturals, Product, Sum, Power, Powerset, Bag, Distribution, Integers, Rationals}
 use Rattle.functor_terms.specs.Terms.{Nodes}
-use Rattle.functor_terms.proofs.Folds.{Zip3, fold-related3}
+use Rattle.functor_terms.specs.Lists.{Zip3}
+use Rattle.functor_terms.proofs.Folds.{fold-related3}
 use Rattle.typing.specs.declared.value.Value.{Value, Value-F, out-Value, roll-Value, roll-out-Value}
 use Rattle.typing.specs.Values.{state, state_in, label, label_in, index, index_in, inner, inner_in, parts, parts_in, entries, entries_in}
 use Rattle.typing.specs.Equality.{Test, no_test, test_at, each_place, has, same_members, same_weights, eq_step, are_equal}

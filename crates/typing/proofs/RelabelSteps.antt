@@ -5,7 +5,7 @@ use Rattle.std.specs.List.{list_all, sum_by, AllZip}
 use Rattle.functor_terms.specs.declared.node.Node.{Node}
 use Rattle.functor_terms.specs.declared.node.Node.TheVariants.{Product}
 use Rattle.functor_terms.specs.Terms.{Nodes, IsTerm, node_at, children_at}
-use Rattle.functor_terms.proofs.Folds.{Zip3}
+use Rattle.functor_terms.specs.Lists.{Zip3}
 use Rattle.typing.specs.declared.value.Value.{Value, Value-F, out-Value}
 use Rattle.typing.specs.declared.value.Value.TheVariants as value
 use Rattle.typing.specs.declared.value.Value.TheViews.{outs-State, outs-Label, outs-Tuple, outs-Inj, outs-Set, outs-Weights}

@@ -2,7 +2,7 @@
 ghost use Rattle.std.specs.Prelude.{◌≡◌, ℕ, ◌<◌, length, map, nat_lt, IsTrue, IfOk};
 ghost use Rattle.std.specs.List.{list_all, AllZip};
 ghost use Rattle.functor_terms.specs.Terms.{children_at};
-ghost use Rattle.functor_terms.proofs.Folds.{Zip3};
+ghost use Rattle.functor_terms.specs.Lists.{Zip3};
 ghost use Rattle.typing.specs.Values.{relabelled as the_relabelled, states_below};
 ghost use Rattle.typing.specs.Equality.{are_equal};
 ghost use Rattle.typing.specs.Fits.{fits};

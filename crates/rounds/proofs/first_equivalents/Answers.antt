@@ -4,7 +4,7 @@ use Rattle.std.proofs.lemmas.Slice.Eq.{bytes_eq-Decides}
 use Rattle.typing.specs.Stable.{regrouped}
 use Rattle.typing.proofs.FirstPlaces.{total}
 use Rattle.typing.proofs.StableLaws.{IsRound, next-IsRound, next_grows, total_bounded, round-stable, round-first}
-use Rattle.rounds.proofs.Within.{each_below}
+use Rattle.typing.proofs.Within.{each_below}
 use Rattle.rounds.proofs.first_equivalents.Goals as goal
 
 pub returns-then-eq-clause-stable : goal.returns-then-eq-clause-stable

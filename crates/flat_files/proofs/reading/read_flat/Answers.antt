@@ -30,13 +30,13 @@ pub returns-in-Ok-Some-clause-accepted : goal.returns-in-Ok-Some-clause-accepted
 returns-in-Ok-Some-clause-accepted c =
     let is : lines_of c.args.bytes.now ≡ numbered_line c.in-Some.functor.number c.in-Some.functor.text.now ∷ c.next.new.self = search rules in
     let read : read_rows c.next.new.self ≡ Some c.as_slice.result.now = search rules in
-    if_read c.resolved.result c.args.bytes.now c.as_slice.result.now (are_rows c.args.bytes.now (numbered_line c.in-Some.functor.number c.in-Some.functor.text.now) c.next.new.self c.in-Ok.term c.as_slice.result.now is c.in-Ok.ensures.term read) c.resolved.ensures.sound c.resolved.ensures.read
+    if_read c.resolved.result c.args.bytes.now c.as_slice.result.now (are_rows c.args.bytes.now (numbered_line c.in-Some.functor.number c.in-Some.functor.text.now) c.next.new.self c.in-Some-2.term c.as_slice.result.now is (search rules) read) c.resolved.ensures.sound c.resolved.ensures.read
 
 pub returns-in-Ok-Some-clause-misfit : goal.returns-in-Ok-Some-clause-misfit
 returns-in-Ok-Some-clause-misfit c line kind e =
     let is : lines_of c.args.bytes.now ≡ numbered_line c.in-Some.functor.number c.in-Some.functor.text.now ∷ c.next.new.self = search rules in
     let read : read_rows c.next.new.self ≡ Some c.as_slice.result.now = search rules in
-    (c.as_slice.result.now, are_rows c.args.bytes.now (numbered_line c.in-Some.functor.number c.in-Some.functor.text.now) c.next.new.self c.in-Ok.term c.as_slice.result.now is c.in-Ok.ensures.term read, c.resolved.ensures.misfit line kind e)
+    (c.as_slice.result.now, are_rows c.args.bytes.now (numbered_line c.in-Some.functor.number c.in-Some.functor.text.now) c.next.new.self c.in-Some-2.term c.as_slice.result.now is (search rules) read, c.resolved.ensures.misfit line kind e)
 
 pub returns-in-Ok-None-clause-not_built : goal.returns-in-Ok-None-clause-not_built
 returns-in-Ok-None-clause-not_built c e =

@@ -11,7 +11,7 @@ use Rattle.functor_terms.proofs.NamesLemmas.{word_is_name}
 use Rattle.typing.specs.NormalForms.{IsRelabelledAt}
 use Rattle.typing.proofs.StableLaws.{element}
 use Rattle.typing.proofs.RelabelSteps.{got}
-use Rattle.rounds.proofs.Within.{each_bounded}
+use Rattle.typing.proofs.Within.{each_bounded}
 use Rattle.quotient_writer.proofs.Picks.{picking_none, picking_old, picking_new, name_is_new, picked_all, end-one_each, end-fitting, end-normal, end-in_range, end-kept}
 use Rattle.quotient_writer.proofs.KeptWeights.{form-weights, form-within}
 use Rattle.quotient_writer.proofs.QuotientLaws.{made-IsQuotient}

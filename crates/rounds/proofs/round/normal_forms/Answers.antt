@@ -2,7 +2,7 @@ use Rattle.std.proofs.Common.{◌++◌, ◌∷◌, [], ap, ◌∙◌, ◌≡◌,
 use Rattle.std.proofs.lemmas.Option.{slice_get_read}
 use Rattle.typing.specs.declared.value.Value.{Value}
 use Rattle.rounds.specs.Forms.{key_of}
-use Rattle.rounds.proofs.Within.{each_bounded}
+use Rattle.typing.proofs.Within.{each_bounded}
 use Rattle.rounds.proofs.FormLaws.{AreMade, made_more}
 use Rattle.rounds.proofs.round.normal_forms.Goals as goal
 

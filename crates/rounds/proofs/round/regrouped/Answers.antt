@@ -3,7 +3,7 @@ use Rattle.std.proofs.lemmas.Option.{slice_get_read}
 use Rattle.functor_terms.proofs.TermLaws.{term-some}
 use Rattle.typing.specs.declared.value.Value.{Value}
 use Rattle.rounds.specs.Forms.{AreForms}
-use Rattle.rounds.proofs.Within.{each_below}
+use Rattle.typing.proofs.Within.{each_below}
 use Rattle.rounds.proofs.FormLaws.{filled_none, forms-permutation, state_below, next_first, filled_more, filled_all}
 use Rattle.rounds.proofs.round.regrouped.Goals as goal
 

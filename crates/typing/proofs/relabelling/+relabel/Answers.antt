@@ -6,7 +6,7 @@ use Rattle.std.proofs.lemmas.Grind.{common_steps}
 use Rattle.std.proofs.lemmas.Result.{IfOk-weaker}
 use Rattle.std.proofs.lemmas.List.Elements.{all_zip_more}
 use Rattle.functor_terms.specs.Terms.{children_at}
-use Rattle.functor_terms.proofs.Folds.{Zip3}
+use Rattle.functor_terms.specs.Lists.{Zip3}
 use Rattle.typing.specs.declared.value.Value.{Value, the_lemmas}
 use Rattle.typing.specs.Fits.{fits}
 use Rattle.typing.specs.NormalForms.{is_ready, each_ready, child_check, IsRelabelledAt, IsRelabelledChild, IsRelabelledEntry}

@@ -1,7 +1,7 @@
 use Rattle.std.proofs.Common.{◌≡◌, length, map, take, true, List, ◌++◌, ◌+◌, ◌-◌, ◌*◌}
 use Rattle.std.specs.List.{AllZip}
 use Rattle.functor_terms.specs.Terms.{children_at}
-use Rattle.functor_terms.proofs.Folds.{Zip3}
+use Rattle.functor_terms.specs.Lists.{Zip3}
 use Rattle.typing.specs.declared.value.Value.{Value}
 use Rattle.typing.specs.Fits.{fits}
 use Rattle.typing.specs.NormalForms.{each_ready, IsRelabelledAt, IsRelabelledChild, IsRelabelledEntry}
