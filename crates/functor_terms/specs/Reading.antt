@@ -212,11 +212,3 @@ abbrev pub Gives : {A : Type 0} → Result (A × List Sign) TermFault → Option
 Gives (Ok found) read = read ≡ Some (found.0, found.1)
 Gives (Err Grammar) read = read ≡ None
 Gives (Err NoMemory) read = Unit {0}
-
--- the same of a function that answers a list in a vector
-abbrev pub GivesItems :
-    {A V : Type 0} → (V → List A) → Result (V × List Sign) TermFault
-    → Option (List A × List Sign) → Type 0
-GivesItems items (Ok found) read = read ≡ Some (items found.0, found.1)
-GivesItems items (Err Grammar) read = read ≡ None
-GivesItems items (Err NoMemory) read = Unit {0}

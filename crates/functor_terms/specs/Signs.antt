@@ -4,11 +4,10 @@
 -- Place       == where a byte stands: outside braces, inside, or second of a sign of two bytes
 -- signs_at    == the tokens of bytes that stand at such a place
 -- signs       == the tokens of a functor line
--- HasWord     == a token that is a word has the bytes of a word
 -- is_plus ..  == whether a token is this sign
 use Rattle.std.specs.Prelude.{ℕ, List, [], ◌∷◌, Bool, true, false, ◌&&◌, ◌==◌, if◌then◌else◌}
 use Rattle.std.specs.Char.{is_ascii_digit}
-use Rattle.file_cut.specs.Bytes.{is_blank, is_word_byte, IsWord}
+use Rattle.file_cut.specs.Bytes.{is_blank, is_word_byte}
 use Rattle.functor_terms.specs.declared.sign.Sign.{Sign}
 use Rattle.functor_terms.specs.declared.sign.Sign.TheVariants.{X, P, B, D, N, Z, Q, Plus, Times, Caret, Open, Close, OpenBrace, CloseBrace, Comma, Digits, Word, Stray}
 
@@ -108,11 +107,6 @@ place_in false = outside
 -- the tokens of a functor line
 abbrev pub signs : List ℕ → List Sign
 signs text = signs_at outside text
-
--- a token that is a word has the bytes of a word
-abbrev pub HasWord : Sign → Type 0
-HasWord (Word word) = IsWord word
-HasWord _ = Unit {0}
 
 -- the token is `+`
 abbrev pub is_plus : Sign → Bool
