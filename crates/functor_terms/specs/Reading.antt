@@ -1,6 +1,6 @@
 -- Reading terms from tokens, from left to right: what the functions that read terms compute. Only
--- private clauses cite it. That it agrees with what a text spells is proved. A limit is tested where
--- it may first be passed, so what is read never grows past the limits.
+-- private clauses cite it. That it agrees with what a text spells is proved. A limit is tested
+-- where it may first be passed, so what is read never grows past the limits.
 --
 -- Reads       == what stands at the front of tokens, and the tokens behind it
 -- made_over   == a node over parts that are small enough

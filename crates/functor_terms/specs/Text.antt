@@ -9,8 +9,8 @@
 --     Product       the parts with x between them, and spaces around it
 --     Sum           the parts with + between them, and spaces around it
 --
--- A child behind P, B or D is in parentheses if it is a power, a product or a sum. So is a base, and
--- a part of a product, if it is a product or a sum, and a part of a sum if it is a sum.
+-- A child behind P, B or D is in parentheses if it is a power, a product or a sum. So is a base,
+-- and a part of a product, if it is a product or a sum, and a part of a sum if it is a sum.
 --
 -- Shown            == a text and how loosely it binds
 -- level_of         == how loosely the text of a node binds
