@@ -20,6 +20,7 @@ mod node;
 mod part;
 mod sign;
 mod term;
+mod text;
 #[cfg(test)]
 mod tests;
 
@@ -29,3 +30,4 @@ pub use laws::{one_reading, texts_are_read_back};
 pub use node::{Branch, LabelSet, Node};
 pub use part::TermPart;
 pub use term::Term;
+pub use text::term_text;
