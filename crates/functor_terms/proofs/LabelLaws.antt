@@ -23,11 +23,11 @@ use Rattle.functor_terms.proofs.SignTests.{comma_test, brace_end_test}
 use Rattle.functor_terms.proofs.ItemLaws.{parts_of, Found, IsSound, IsComplete, and_then_of, ended_of, ended_at, items-sound, Join, items-complete}
 
 -- both of two tests
-both : (a b : Bool) → (a && b) ≡ true → (a ≡ true) × (b ≡ true)
+pub both : (a b : Bool) → (a && b) ≡ true → (a ≡ true) × (b ≡ true)
 both true b e = (refl, e)
 both false b e = absurd (true≢false (sym e))
 
-both_true : (a b : Bool) → a ≡ true → b ≡ true → (a && b) ≡ true
+pub both_true : (a b : Bool) → a ≡ true → b ≡ true → (a && b) ≡ true
 both_true a b p q = λ i. (p ∙ sym refl) i && q i
 
 -- the test of names is right
@@ -106,7 +106,7 @@ word-complete front x rest spelled follows = ap (λ l. word_at (l ++ rest)) spel
 abbrev SpellsWords : List Sign → List (List ℕ) → Type 0
 SpellsWords ts words = SpellsEach Comma SpellsWord ts words × AreLabels (Listed words)
 
-each_some : {A : Type 0} (between : Sign) (Spells : List Sign → A → Type 0) (ts : List Sign) (xs : List A) → SpellsEach between Spells ts xs → 0 < length xs
+pub each_some : {A : Type 0} (between : Sign) (Spells : List Sign → A → Type 0) (ts : List Sign) (xs : List A) → SpellsEach between Spells ts xs → 0 < length xs
 each_some between Spells ts [] each = absurd each
 each_some between Spells ts (x ∷ xs) each = omega arith
 

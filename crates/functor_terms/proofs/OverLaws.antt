@@ -19,7 +19,7 @@ pub nodes-push : (xs : List Part) (x : Part) → nodes_of (xs ++ x ∷ []) ≡ n
 nodes-push [] x = append-nil x.0
 nodes-push (y ∷ ys) x = ap (λ l. y.0 ++ l) (nodes-push ys x) ∙ sym (append_assoc y.0 (nodes_of ys) x.0)
 
-nodes-append : (xs ys : List Part) → nodes_of (xs ++ ys) ≡ nodes_of xs ++ nodes_of ys
+pub nodes-append : (xs ys : List Part) → nodes_of (xs ++ ys) ≡ nodes_of xs ++ nodes_of ys
 nodes-append [] ys = refl
 nodes-append (x ∷ xs) ys = ap (λ l. x.0 ++ l) (nodes-append xs ys) ∙ sym (append_assoc x.0 (nodes_of xs) (nodes_of ys))
 

@@ -51,6 +51,21 @@ exponents-part ts base (labels ∷ others) (front, rest, split, here, behind) is
 chain-takes : (n : ℕ) → 2 ≤ n → IsTrue (takes Sum n) × IsTrue (takes Product n)
 chain-takes n two = (grind (arith, nat_tests), grind (arith, nat_tests))
 
+-- so are the parts of a chain
+pub each-part : (between : Sign) (Spells : List Sign → Part → Type 0) → ((ts : List Sign) (x : Part) → Spells ts x → IsOwnPart x) → (ts : List Sign) (parts : List Part) → SpellsEach between Spells ts parts → AllByRecursion IsOwnPart parts
+each-part between Spells own ts [] each = absurd each
+each-part between Spells own ts (x ∷ []) each = (own ts x each, tt)
+each-part between Spells own ts (x ∷ y ∷ xs) (front, behind, split, first, others) = (own front x first, each-part between Spells own behind (y ∷ xs) others)
+
+-- a chain has no more parts than nodes
+pub each-few : (between : Sign) (Spells : List Sign → Part → Type 0) → ((ts : List Sign) (x : Part) → Spells ts x → IsOwnPart x) → (ts : List Sign) (parts : List Part) → SpellsEach between Spells ts parts → length parts ≤ length (nodes_of parts)
+each-few between Spells own ts [] each = absurd each
+each-few between Spells own ts (x ∷ []) each = let some = own-nodes x (own ts x each) in omega (arith, length-append x.0 [], some)
+each-few between Spells own ts (x ∷ y ∷ xs) (front, behind, split, first, others) =
+    let some = own-nodes x (own front x first) in
+    let below = each-few between Spells own behind (y ∷ xs) others in
+    omega (arith, length-append x.0 (nodes_of (y ∷ xs)), some, below)
+
 module _ (Inside : List Sign → Part → Type 0) (is_part : (ts : List Sign) (x : Part) → Inside ts x → IsOwnPart x) where
   pub base-part : (ts : List Sign) (x : Part) → SpellsBase Inside ts x → IsOwnPart x
   base-part ts x (weights t node inner child is stands spelled made) =
@@ -72,11 +87,6 @@ module _ (Inside : List Sign → Part → Type 0) (is_part : (ts : List Sign) (x
   power-part ts x (front, rest, base, exponents, split, spelled, behind, made) =
       subst IsOwnPart (sym made) (exponents-part rest base exponents behind (prefix-part front base spelled))
 
-  each-part : (between : Sign) (Spells : List Sign → Part → Type 0) → ((ts : List Sign) (x : Part) → Spells ts x → IsOwnPart x) → (ts : List Sign) (parts : List Part) → SpellsEach between Spells ts parts → AllByRecursion IsOwnPart parts
-  each-part between Spells own ts [] each = absurd each
-  each-part between Spells own ts (x ∷ []) each = (own ts x each, tt)
-  each-part between Spells own ts (x ∷ y ∷ xs) (front, behind, split, first, others) = (own front x first, each-part between Spells own behind (y ∷ xs) others)
-
   pub product-part : (ts : List Sign) (x : Part) → SpellsProduct Inside ts x → IsOwnPart x
   product-part ts x (inl spelled) = power-part ts x spelled
   product-part ts x (inr (parts, two, each, made)) =
@@ -86,15 +96,6 @@ module _ (Inside : List Sign → Part → Type 0) (is_part : (ts : List Sign) (x
   sum-part ts x (inl spelled) = product-part ts x spelled
   sum-part ts x (inr (parts, two, each, made)) =
       subst IsOwnPart (sym made) (over-own Sum parts (chain-takes (length parts) two).0 tt (each-part Plus (SpellsProduct Inside) product-part ts parts each))
-
-  -- a chain has no more parts than nodes
-  pub each-few : (between : Sign) (Spells : List Sign → Part → Type 0) → ((ts : List Sign) (x : Part) → Spells ts x → IsOwnPart x) → (ts : List Sign) (parts : List Part) → SpellsEach between Spells ts parts → length parts ≤ length (nodes_of parts)
-  each-few between Spells own ts [] each = absurd each
-  each-few between Spells own ts (x ∷ []) each = let some = own-nodes x (own ts x each) in omega (arith, length-append x.0 [], some)
-  each-few between Spells own ts (x ∷ y ∷ xs) (front, behind, split, first, others) =
-      let some = own-nodes x (own front x first) in
-      let below = each-few between Spells own behind (y ∷ xs) others in
-      omega (arith, length-append x.0 (nodes_of (y ∷ xs)), some, below)
 
 pub inside-part : (n : ℕ) (ts : List Sign) (x : Part) → SpellsInside n ts x → IsOwnPart x
 unfolding SpellsInside

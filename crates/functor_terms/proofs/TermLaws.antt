@@ -67,7 +67,7 @@ placed-children k (b ∷ nodes) fit zero q found = moved b.children fit.0 found
 placed-children k (b ∷ nodes) fit (suc p) q found =
     let (low, high) = placed-children (k + 1) nodes fit.1 p q found in (omega (arith, low), omega (arith, high))
 
-placed-length : (k : ℕ) (nodes : Nodes) → length (placed k nodes) ≡ length nodes
+pub placed-length : (k : ℕ) (nodes : Nodes) → length (placed k nodes) ≡ length nodes
 placed-length k [] = refl
 placed-length k (b ∷ nodes) = ap suc (placed-length (k + 1) nodes)
 

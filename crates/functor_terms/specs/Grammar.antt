@@ -21,11 +21,11 @@
 -- SpellsBase    == they spell weights or an atom; SpellsPrefix .. SpellsSum the other forms
 -- SpellsInside  == they spell a term that may stand in n parentheses
 -- SpellsTerm    == a text spells the term
--- OneTerm       == no text spells two terms
+-- OneTerm       == no text spells two terms; OnlyTerms == what a text spells is a term
 use Rattle.std.specs.Prelude.{◌≡◌, ℕ, zero, suc, ◌≤◌, List, [], ◌∷◌, ◌++◌, length, Option, Some, None, ◌⊎◌}
 use Rattle.std.specs.Str.Parse.{digits_value}
 use Rattle.functor_terms.specs.Signs.{signs}
-use Rattle.functor_terms.specs.Terms.{Nodes, Part, AreLabels, over, placed, node_limit, depth_limit}
+use Rattle.functor_terms.specs.Terms.{Nodes, Part, IsTerm, AreLabels, over, placed, node_limit, depth_limit}
 use Rattle.functor_terms.specs.declared.node.LabelSet.{LabelSet}
 use Rattle.functor_terms.specs.declared.node.LabelSet.TheVariants.{Listed, Below}
 use Rattle.functor_terms.specs.declared.node.Node.{Node}
@@ -91,6 +91,13 @@ abbrev pub powers : Part → List LabelSet → Part
 powers base [] = base
 powers base (labels ∷ others) = powers (over (Power labels) (base ∷ [])) others
 
+-- one term, or the node over a chain of two or more of them
+abbrev pub SpellsChain : Sign → Node → (List Sign → Part → Type 0) → List Sign → Part → Type 0
+SpellsChain between node Spells ts part =
+    Spells ts part
+    ⊎ ((parts : List Part) × (2 ≤ length parts) × SpellsEach between Spells ts parts
+    × (part ≡ over node parts))
+
 module _ (Inside : List Sign → Part → Type 0) where
   -- weights over the term in their parentheses, or an atom
   pub data SpellsBase (ts : List Sign) (part : Part) : Type 0 where
@@ -123,13 +130,6 @@ module _ (Inside : List Sign → Part → Type 0) where
       × (ts ≡ front ++ rest) × SpellsPrefix front base × SpellsExponents rest exponents
       × (part ≡ powers base exponents)
 
-  -- one such term, or the node over a chain of two or more of them
-  abbrev pub SpellsChain : Sign → Node → (List Sign → Part → Type 0) → List Sign → Part → Type 0
-  SpellsChain between node Spells ts part =
-      Spells ts part
-      ⊎ ((parts : List Part) × (2 ≤ length parts) × SpellsEach between Spells ts parts
-      × (part ≡ over node parts))
-
   -- a power, or a product of powers
   abbrev pub SpellsProduct : List Sign → Part → Type 0
   SpellsProduct = SpellsChain Times Product SpellsPower
@@ -155,3 +155,7 @@ pub record SpellsTerm (text : List ℕ) (t : Nodes) : Type 0 where
 -- no text spells two terms
 abbrev pub OneTerm : Type 0
 OneTerm = (text : List ℕ) (t u : Nodes) → SpellsTerm text t → SpellsTerm text u → t ≡ u
+
+-- what a text spells is a term
+abbrev pub OnlyTerms : Type 0
+OnlyTerms = (text : List ℕ) (t : Nodes) → SpellsTerm text t → IsTerm t

@@ -117,6 +117,18 @@ abbrev pub chain_at : Node → (Sign → Bool) → Reads Part → Reads Part
 chain_at node goes_on item ts =
     option_and_then (λ p. chain_over node p.0 p.1) (items_from item goes_on is_few node_limit [] ts)
 
+-- the constant of labels
+abbrev pub constant_at : Reads Part
+constant_at ts = option_and_then (λ p. made_over (Constant p.0) [] p.1) (labels_at ts)
+
+-- the tokens behind `^(`
+abbrev pub behind_power : List Sign → Option (List Sign)
+behind_power ts = option_and_then (behind_sign is_open) (behind_sign is_caret ts)
+
+-- a node over what was read
+abbrev pub over_read : Node → Option (Part × List Sign) → Option (Part × List Sign)
+over_read node read = option_and_then (λ p. made_over node (p.0 ∷ []) p.1) read
+
 -- `inside` reads what stands in parentheses
 module _ (inside : Reads Part) where
   -- what stands behind `(`, up to its end
@@ -125,11 +137,7 @@ module _ (inside : Reads Part) where
 
   -- weights over what stands behind their `^(`, up to its end
   abbrev pub weights_at : Node → Reads Part
-  weights_at node ts = option_and_then (λ p. made_over node (p.0 ∷ []) p.1) (group_at ts)
-
-  -- the constant of labels
-  abbrev pub constant_at : Reads Part
-  constant_at ts = option_and_then (λ p. made_over (Constant p.0) [] p.1) (labels_at ts)
+  weights_at node ts = over_read node (group_at ts)
 
   -- an atom
   abbrev pub atom_at : Reads Part
@@ -144,10 +152,6 @@ module _ (inside : Reads Part) where
   weighed (Some node) (Some inner) atom = weights_at node inner
   weighed _ _ atom = atom
 
-  -- the tokens behind `^(`
-  abbrev pub behind_power : List Sign → Option (List Sign)
-  behind_power ts = option_and_then (behind_sign is_open) (behind_sign is_caret ts)
-
   -- weights or an atom
   abbrev pub base_at : Reads Part
   base_at [] = None
@@ -155,17 +159,13 @@ module _ (inside : Reads Part) where
 
 -- `inside` reads what stands in parentheses where d more prefixes may stand
 module _ (inside : ℕ → Reads Part) where
-  -- a node over what `inner` reads
-  abbrev pub prefixed : Node → Option (Part × List Sign) → Option (Part × List Sign)
-  prefixed node inner = option_and_then (λ p. made_over node (p.0 ∷ []) p.1) inner
-
   -- weights or an atom behind prefixes, at most d
   unfoldable pub prefix_at : ℕ → Reads Part
   prefix_at d [] = None
   prefix_at zero (t ∷ ts) =
       option_map_or (λ node. None) (prefix_of t) (base_at (inside zero) (t ∷ ts))
   prefix_at (suc d) (t ∷ ts) =
-      option_map_or (λ node. prefixed node (prefix_at d ts)) (prefix_of t)
+      option_map_or (λ node. over_read node (prefix_at d ts)) (prefix_of t)
       (base_at (inside (suc d)) (t ∷ ts))
 
   -- such a term and its exponents

@@ -8,15 +8,20 @@
 #![tactic(auto)]
 
 mod ahead;
+mod chain;
 mod copies;
 mod fault;
 mod label_reading;
 mod label_set;
 mod labels;
+mod laws;
 mod letters;
+mod link;
 mod made;
 mod node;
 mod part;
+mod powers;
+mod reading;
 mod sign;
 mod term;
 #[cfg(test)]
@@ -24,6 +29,8 @@ mod tests;
 
 pub use fault::{PartFault, TermFault};
 pub use labels::Labels;
+pub use laws::{one_reading, texts_are_read_back};
 pub use node::{Branch, LabelSet, Node};
 pub use part::TermPart;
+pub use reading::read_term;
 pub use term::Term;
