@@ -115,6 +115,7 @@ front-passes p text others b is e = subst (λ (l : List ℕ). (0 < length (take 
     some : (x : Bool) → x ≡ true → 0 < length (take (cond x (1 + prefix_len p others) 0) (b ∷ others))
     some true e = let one : suc (prefix_len p others) ≡ 1 + prefix_len p others = omega arith in subst (λ m. 0 < length (take m (b ∷ others))) one (omega arith)
     some false e = cc
+
     all : (l : List ℕ) → list_all p (take (prefix_len p l) l) ≡ true
     all [] = refl
     all (c ∷ l) = by (p c) refl (all l)

@@ -12,6 +12,7 @@ pub mod ReadingLaws
 pub mod SignTests
 pub mod TermLaws
 pub mod TextLaws
+pub mod TextSteps
 pub mod TextTokens
 pub mod WordLemmas
 pub mod FirstSign

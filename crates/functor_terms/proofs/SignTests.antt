@@ -65,36 +65,50 @@ pub brace_end_test : IsTestOf is_brace_end CloseBrace
 brace_end_test = record { itself = refl; only = only_brace_end }
 
 -- the tokens behind a sign
-pub behind_is : (passes : Sign → Bool) (sign : Sign) → IsTestOf passes sign → (ts rest : List Sign) → behind_sign passes ts ≡ Some rest → ts ≡ sign ∷ rest
+pub behind_is : (passes : Sign → Bool) (sign : Sign) → IsTestOf passes sign → (ts rest : List Sign)
+    → behind_sign passes ts ≡ Some rest → ts ≡ sign ∷ rest
 behind_is passes sign test [] rest e = cc
 behind_is passes sign test (t ∷ ts) rest e = by (passes t) refl e
   where
-    by : (b : Bool) → passes t ≡ b → (if b then Some ts else None) ≡ Some rest → t ∷ ts ≡ sign ∷ rest
+    by : (b : Bool) → passes t ≡ b → (if b then Some ts else None) ≡ Some rest
+        → t ∷ ts ≡ sign ∷ rest
     by true is e = let same : ts ≡ rest = cc in λ i. test.only t is i ∷ same i
     by false is e = cc
 
 -- a sign is behind its test
-pub sign_behind : (passes : Sign → Bool) (sign : Sign) → IsTestOf passes sign → (rest : List Sign) → behind_sign passes (sign ∷ rest) ≡ Some rest
+pub sign_behind : (passes : Sign → Bool) (sign : Sign) → IsTestOf passes sign → (rest : List Sign)
+    → behind_sign passes (sign ∷ rest) ≡ Some rest
 sign_behind passes sign test rest = ap (λ b. if b then Some rest else None) test.itself
 
 -- a letter of prefixes stands for a node over one child
-pub prefix-takes : (t : Sign) (node : Node) → prefix_of t ≡ Some node → IsTrue (takes node 1) × HasLabels node
-prefix-takes P node e = let same : Powerset ≡ node = cc in subst (λ n. IsTrue (takes n 1) × HasLabels n) same (refl, tt)
-prefix-takes B node e = let same : Bag ≡ node = cc in subst (λ n. IsTrue (takes n 1) × HasLabels n) same (refl, tt)
-prefix-takes D node e = let same : Distribution ≡ node = cc in subst (λ n. IsTrue (takes n 1) × HasLabels n) same (refl, tt)
+pub prefix-takes : (t : Sign) (node : Node) → prefix_of t ≡ Some node
+    → IsTrue (takes node 1) × HasLabels node
+prefix-takes P node e = let same : Powerset ≡ node = cc in
+    subst (λ n. IsTrue (takes n 1) × HasLabels n) same (refl, tt)
+prefix-takes B node e = let same : Bag ≡ node = cc in subst
+    (λ n. IsTrue (takes n 1) × HasLabels n) same (refl, tt)
+prefix-takes D node e = let same : Distribution ≡ node = cc in
+    subst (λ n. IsTrue (takes n 1) × HasLabels n) same (refl, tt)
 prefix-takes _ node e = cc
 
 -- so does a letter of weights
-pub weights-takes : (t : Sign) (node : Node) → weights_of t ≡ Some node → IsTrue (takes node 1) × HasLabels node
-weights-takes N node e = let same : Bag ≡ node = cc in subst (λ n. IsTrue (takes n 1) × HasLabels n) same (refl, tt)
-weights-takes Z node e = let same : Integers ≡ node = cc in subst (λ n. IsTrue (takes n 1) × HasLabels n) same (refl, tt)
-weights-takes Q node e = let same : Rationals ≡ node = cc in subst (λ n. IsTrue (takes n 1) × HasLabels n) same (refl, tt)
+pub weights-takes : (t : Sign) (node : Node) → weights_of t ≡ Some node
+    → IsTrue (takes node 1) × HasLabels node
+weights-takes N node e = let same : Bag ≡ node = cc in subst
+    (λ n. IsTrue (takes n 1) × HasLabels n) same (refl, tt)
+weights-takes Z node e = let same : Integers ≡ node = cc in
+    subst (λ n. IsTrue (takes n 1) × HasLabels n) same (refl, tt)
+weights-takes Q node e = let same : Rationals ≡ node = cc in
+    subst (λ n. IsTrue (takes n 1) × HasLabels n) same (refl, tt)
 weights-takes _ node e = cc
 
 -- a letter by itself stands for a node without children
-pub letter-takes : (t : Sign) (node : Node) → letter_of t ≡ Some node → IsTrue (takes node 0) × HasLabels node
-letter-takes X node e = let same : State ≡ node = cc in subst (λ n. IsTrue (takes n 0) × HasLabels n) same (refl, tt)
-letter-takes N node e = let same : Naturals ≡ node = cc in subst (λ n. IsTrue (takes n 0) × HasLabels n) same (refl, tt)
+pub letter-takes : (t : Sign) (node : Node) → letter_of t ≡ Some node
+    → IsTrue (takes node 0) × HasLabels node
+letter-takes X node e = let same : State ≡ node = cc in subst
+    (λ n. IsTrue (takes n 0) × HasLabels n) same (refl, tt)
+letter-takes N node e = let same : Naturals ≡ node = cc in
+    subst (λ n. IsTrue (takes n 0) × HasLabels n) same (refl, tt)
 letter-takes _ node e = cc
 
 -- a letter of weights is no prefix

@@ -22,40 +22,52 @@ use Rattle.functor_terms.proofs.LabelLaws.{both}
 
 -- outside braces the bytes are these tokens, where no digit follows
 abbrev pub Lexes : List ℕ → List Sign → Type 0
-Lexes bytes tokens = (rest : List ℕ) → begins is_ascii_digit rest ≡ false → signs_at outside (bytes ++ rest) ≡ tokens ++ signs_at outside rest
+Lexes bytes tokens = (rest : List ℕ) → begins is_ascii_digit rest ≡ false
+    → signs_at outside (bytes ++ rest) ≡ tokens ++ signs_at outside rest
 
 -- one text behind another that no digit begins
-pub lexes-append : (a b : List ℕ) (s u : List Sign) → Lexes a s → Lexes b u → ((rest : List ℕ) → begins is_ascii_digit (b ++ rest) ≡ false) → Lexes (a ++ b) (s ++ u)
+pub lexes-append : (a b : List ℕ) (s u : List Sign) → Lexes a s → Lexes b u
+    → ((rest : List ℕ) → begins is_ascii_digit (b ++ rest) ≡ false) → Lexes (a ++ b) (s ++ u)
 lexes-append a b s u first second_is starts rest ends =
-    ap (signs_at outside) (append_assoc a b rest) ∙ first (b ++ rest) (starts rest) ∙ ap (λ l. s ++ l) (second_is rest ends) ∙ sym (append_assoc s u (signs_at outside rest))
+    ap (signs_at outside) (append_assoc a b rest) ∙ first (b ++ rest) (starts rest)
+    ∙ ap (λ l. s ++ l) (second_is rest ends) ∙ sym (append_assoc s u (signs_at outside rest))
 
 -- a text in parentheses
-pub lexes-enclosed : (text : List ℕ) (tokens : List Sign) → Lexes text tokens → Lexes (enclosed text) (Open ∷ tokens ++ Close ∷ [])
+pub lexes-enclosed : (text : List ℕ) (tokens : List Sign) → Lexes text tokens
+    → Lexes (enclosed text) (Open ∷ tokens ++ Close ∷ [])
 unfolding signs_at
 lexes-enclosed text tokens is rest ends =
     ap (λ l. Open ∷ signs_at outside l) (append_assoc text (codes ")") rest)
-    ∙ ap (λ l. Open ∷ l) (is (codes ")" ++ rest) refl ∙ sym (append_assoc tokens (Close ∷ []) (signs_at outside rest)))
+    ∙ ap (λ l. Open ∷ l) (is (codes ")" ++ rest) refl ∙ sym
+    (append_assoc tokens (Close ∷ []) (signs_at outside rest)))
 
 -- Digits.
 digit_no_blank : (b : ℕ) → is_ascii_digit b ≡ true → is_blank b ≡ false
 digit_no_blank b digit = grind (arith, nat_tests)
 
-digit-step : (b : ℕ) (bytes : List ℕ) (behind : Place → List Sign) → is_ascii_digit b ≡ true → sign_outside b bytes behind ≡ (if begins is_ascii_digit bytes then digit_before b (behind outside) else Digits (b ∷ []) ∷ behind outside)
+digit-step : (b : ℕ) (bytes : List ℕ) (behind : Place → List Sign) → is_ascii_digit b ≡ true
+    → sign_outside b bytes behind ≡ (if begins is_ascii_digit bytes then digit_before b
+    (behind outside) else Digits (b ∷ []) ∷ behind outside)
 digit-step b bytes behind digit = λ i.
     if digit_no_blank b digit i then behind outside
-    else (if digit i then (if begins is_ascii_digit bytes then digit_before b (behind outside) else Digits (b ∷ []) ∷ behind outside)
+    else (if digit i then (if begins is_ascii_digit bytes then digit_before b
+    (behind outside) else Digits (b ∷ []) ∷ behind outside)
     else (if (b == cross_first) && begins (λ c. c == cross_second) bytes then Times ∷ behind second
     else (if b == brace then OpenBrace ∷ behind inside
     else sign_of b ∷ behind outside)))
 
-pub lexes-digits : (b : ℕ) (digits : List ℕ) → is_ascii_digit b ≡ true → list_all is_ascii_digit digits ≡ true → Lexes (b ∷ digits) (Digits (b ∷ digits) ∷ [])
+pub lexes-digits : (b : ℕ) (digits : List ℕ) → is_ascii_digit b ≡ true
+    → list_all is_ascii_digit digits ≡ true → Lexes (b ∷ digits) (Digits (b ∷ digits) ∷ [])
 unfolding signs_at
 lexes-digits b [] digit all rest ends =
-    digit-step b rest (λ place. signs_at place rest) digit ∙ ap (λ x. if x then digit_before b (signs_at outside rest) else Digits (b ∷ []) ∷ signs_at outside rest) ends
+    digit-step b rest (λ place. signs_at place rest) digit
+    ∙ ap (λ x. if x then digit_before b (signs_at outside rest) else Digits
+    (b ∷ []) ∷ signs_at outside rest) ends
 lexes-digits b (c ∷ digits) digit all rest ends =
     let (here, others) = both (is_ascii_digit c) (list_all is_ascii_digit digits) all in
     digit-step b (c ∷ (digits ++ rest)) (λ place. signs_at place (c ∷ (digits ++ rest))) digit
-    ∙ ap (λ x. if x then digit_before b (signs_at outside (c ∷ (digits ++ rest))) else Digits (b ∷ []) ∷ signs_at outside (c ∷ (digits ++ rest))) here
+    ∙ ap (λ x. if x then digit_before b (signs_at outside (c ∷ (digits ++ rest))) else Digits
+    (b ∷ []) ∷ signs_at outside (c ∷ (digits ++ rest))) here
     ∙ ap (digit_before b) (lexes-digits c digits here others rest ends)
 
 all_digits : (ds : List ℕ) → AllDigits 10 ds → list_all is_ascii_digit ds ≡ true
@@ -66,22 +78,30 @@ all_digits (c ∷ cs) all =
     λ i. here i && all_digits cs all.1 i
 
 -- Words in braces.
-word-step : (b : ℕ) (bytes : List ℕ) (behind : Place → List Sign) → is_word_byte b ≡ true → sign_inside b bytes behind ≡ (if begins is_word_byte bytes then letter_before b (behind inside) else Word (b ∷ []) ∷ behind inside)
+word-step : (b : ℕ) (bytes : List ℕ) (behind : Place → List Sign) → is_word_byte b ≡ true
+    → sign_inside b bytes behind ≡ (if begins is_word_byte bytes then letter_before b
+    (behind inside) else Word (b ∷ []) ∷ behind inside)
 word-step b bytes behind word = λ i.
     if blank_ends b word i then behind inside
-    else (if word i then (if begins is_word_byte bytes then letter_before b (behind inside) else Word (b ∷ []) ∷ behind inside)
+    else (if word i then (if begins is_word_byte bytes then letter_before b
+    (behind inside) else Word (b ∷ []) ∷ behind inside)
     else (if b == comma then Comma ∷ behind inside
     else (if b == brace_end then CloseBrace ∷ behind outside
     else Stray ∷ behind inside)))
 
-pub lexes-word : (b : ℕ) (word rest : List ℕ) → is_word_byte b ≡ true → list_all is_word_byte word ≡ true → begins is_word_byte rest ≡ false → signs_at inside (b ∷ (word ++ rest)) ≡ Word (b ∷ word) ∷ signs_at inside rest
+pub lexes-word : (b : ℕ) (word rest : List ℕ) → is_word_byte b ≡ true
+    → list_all is_word_byte word ≡ true → begins is_word_byte rest ≡ false
+    → signs_at inside (b ∷ (word ++ rest)) ≡ Word (b ∷ word) ∷ signs_at inside rest
 unfolding signs_at
 lexes-word b [] rest here all ends =
-    word-step b rest (λ place. signs_at place rest) here ∙ ap (λ x. if x then letter_before b (signs_at inside rest) else Word (b ∷ []) ∷ signs_at inside rest) ends
+    word-step b rest (λ place. signs_at place rest) here
+    ∙ ap (λ x. if x then letter_before b (signs_at inside rest) else Word
+    (b ∷ []) ∷ signs_at inside rest) ends
 lexes-word b (c ∷ word) rest byte all ends =
     let (here, others) = both (is_word_byte c) (list_all is_word_byte word) all in
     word-step b (c ∷ (word ++ rest)) (λ place. signs_at place (c ∷ (word ++ rest))) byte
-    ∙ ap (λ x. if x then letter_before b (signs_at inside (c ∷ (word ++ rest))) else Word (b ∷ []) ∷ signs_at inside (c ∷ (word ++ rest))) here
+    ∙ ap (λ x. if x then letter_before b (signs_at inside (c ∷ (word ++ rest))) else Word
+    (b ∷ []) ∷ signs_at inside (c ∷ (word ++ rest))) here
     ∙ ap (letter_before b) (lexes-word c word rest here others ends)
 
 -- the tokens of words with commas between them
@@ -90,24 +110,41 @@ word_tokens [] = []
 word_tokens (word ∷ []) = Word word ∷ []
 word_tokens (word ∷ next ∷ words) = Word word ∷ Comma ∷ word_tokens (next ∷ words)
 
-word_tokens-spell : (word : List ℕ) (words : List (List ℕ)) → SpellsEach Comma SpellsWord (word_tokens (word ∷ words)) (word ∷ words)
+word_tokens-spell : (word : List ℕ) (words : List (List ℕ))
+    → SpellsEach Comma SpellsWord (word_tokens (word ∷ words)) (word ∷ words)
 word_tokens-spell word [] = refl
-word_tokens-spell word (next ∷ words) = (Word word ∷ [], word_tokens (next ∷ words), refl, refl, word_tokens-spell next words)
+word_tokens-spell word (next ∷ words) = (
+  Word word ∷ [],
+  word_tokens (next ∷ words),
+  refl,
+  refl,
+  word_tokens-spell next words,
+)
 
-lexes-name : (word rest : List ℕ) → IsName word → begins is_word_byte rest ≡ false → signs_at inside (word ++ rest) ≡ Word word ∷ signs_at inside rest
+lexes-name : (word rest : List ℕ) → IsName word → begins is_word_byte rest ≡ false
+    → signs_at inside (word ++ rest) ≡ Word word ∷ signs_at inside rest
 lexes-name [] rest name ends = absurd (omega (arith, name.0.0))
-lexes-name (b ∷ word) rest name ends = let (here, others) = both (is_word_byte b) (list_all is_word_byte word) name.0.1 in lexes-word b word rest here others ends
+lexes-name (b ∷ word) rest name ends = let (here, others) =
+    both (is_word_byte b) (list_all is_word_byte word) name.0.1 in
+    lexes-word b word rest here others ends
 
-lexes-words : (word : List ℕ) (words : List (List ℕ)) (rest : List ℕ) → AllByRecursion IsName (word ∷ words)
-    → signs_at inside (join_by (λ word. word) (codes ",") (word ∷ words) ++ (codes "}" ++ rest)) ≡ word_tokens (word ∷ words) ++ CloseBrace ∷ signs_at outside rest
+lexes-words : (word : List ℕ) (words : List (List ℕ)) (rest : List ℕ)
+    → AllByRecursion IsName (word ∷ words)
+    → signs_at inside (join_by (λ word. word) (codes ",") (word ∷ words) ++ (codes "}" ++ rest))
+    ≡ word_tokens (word ∷ words) ++ CloseBrace ∷ signs_at outside rest
 unfolding signs_at
-lexes-words word [] rest names = ap (λ l. signs_at inside (l ++ (codes "}" ++ rest))) (append-nil word) ∙ lexes-name word (codes "}" ++ rest) names.0 refl
+lexes-words word [] rest names = ap (λ l. signs_at inside (l ++ (codes "}" ++ rest)))
+    (append-nil word) ∙ lexes-name word (codes "}" ++ rest) names.0 refl
 lexes-words word (next ∷ words) rest names =
-    let regrouped : (word ++ ((codes "," ++ next) ++ flat_map (λ word. codes "," ++ word) words)) ++ (codes "}" ++ rest)
-    ≡ word ++ (codes "," ++ (join_by (λ word. word) (codes ",") (next ∷ words) ++ (codes "}" ++ rest))) =
-    append_assoc word ((codes "," ++ next) ++ flat_map (λ word. codes "," ++ word) words) (codes "}" ++ rest) in
+    let regrouped : (word ++ ((codes "," ++ next) ++ flat_map
+    (λ word. codes "," ++ word) words)) ++ (codes "}" ++ rest)
+    ≡ word ++ (codes "," ++ (join_by (λ word. word) (codes ",") (next ∷ words) ++
+    (codes "}" ++ rest))) =
+    append_assoc word ((codes "," ++ next) ++ flat_map (λ word. codes "," ++ word) words)
+    (codes "}" ++ rest) in
     ap (signs_at inside) regrouped
-    ∙ lexes-name word (codes "," ++ (join_by (λ word. word) (codes ",") (next ∷ words) ++ (codes "}" ++ rest))) names.0 refl
+    ∙ lexes-name word (codes "," ++ (join_by (λ word. word) (codes ",") (next ∷ words) ++
+    (codes "}" ++ rest))) names.0 refl
     ∙ ap (λ l. Word word ∷ Comma ∷ l) (lexes-words next words rest names.1)
 
 -- Labels.
@@ -116,13 +153,17 @@ pub record LabelTokens (labels : LabelSet) : Type 0 where
   pub lexes : Lexes (label_text labels) tokens
   pub spelled : SpellsLabels tokens labels
 
-below-tokens : (n : ℕ) (digits : List ℕ) → digits ≡ decimal n → (0 < length digits) × AllDigits 10 digits → digits_value 10 digits ≡ n → AreLabels (Below n) → LabelTokens (Below n)
+below-tokens : (n : ℕ) (digits : List ℕ) → digits ≡ decimal n
+    → (0 < length digits) × AllDigits 10 digits → digits_value 10 digits ≡ n → AreLabels (Below n)
+    → LabelTokens (Below n)
 below-tokens n [] is numeral value are = absurd (omega (arith, numeral.0))
 below-tokens n (b ∷ digits) is numeral value are =
-    let (here, others) = both (is_ascii_digit b) (list_all is_ascii_digit digits) (all_digits (b ∷ digits) numeral.1) in
+    let (here, others) = both (is_ascii_digit b) (list_all is_ascii_digit digits)
+    (all_digits (b ∷ digits) numeral.1) in
     record {
       tokens = Digits (b ∷ digits) ∷ [];
-      lexes = subst (λ l. Lexes l (Digits (b ∷ digits) ∷ [])) is (lexes-digits b digits here others);
+      lexes = subst (λ l. Lexes l (Digits (b ∷ digits) ∷ [])) is
+          (lexes-digits b digits here others);
       spelled = below (b ∷ digits) refl (ap Below (sym value)) are;
     }
 
@@ -132,9 +173,13 @@ listed-tokens [] are = absurd (omega (arith, are.1))
 listed-tokens (word ∷ words) are = record {
   tokens = OpenBrace ∷ word_tokens (word ∷ words) ++ CloseBrace ∷ [];
   lexes = λ rest ends.
-      ap (λ l. OpenBrace ∷ signs_at inside l) (append_assoc (join_by (λ word. word) (codes ",") (word ∷ words)) (codes "}") rest)
-      ∙ ap (λ l. OpenBrace ∷ l) (lexes-words word words rest are.0.each ∙ sym (append_assoc (word_tokens (word ∷ words)) (CloseBrace ∷ []) (signs_at outside rest)));
-  spelled = listed (word_tokens (word ∷ words)) (word ∷ words) refl (word_tokens-spell word words) refl are;
+      ap (λ l. OpenBrace ∷ signs_at inside l) (append_assoc
+      (join_by (λ word. word) (codes ",") (word ∷ words)) (codes "}") rest)
+      ∙ ap (λ l. OpenBrace ∷ l) (lexes-words word words rest are.0.each
+      ∙ sym (append_assoc (word_tokens (word ∷ words)) (CloseBrace ∷ [])
+      (signs_at outside rest)));
+  spelled = listed (word_tokens (word ∷ words)) (word ∷ words) refl
+      (word_tokens-spell word words) refl are;
 }
 
 -- the text of labels spells them

@@ -115,7 +115,7 @@ module _ (Inside : List Sign → Part → Type 0) where
         (inner : List Sign) → ts ≡ Open ∷ inner ++ Close ∷ [] → Inside inner part
         → SpellsBase ts part
 
-  -- one of these, behind any number of prefixes
+  -- weights or an atom, behind any number of prefixes
   abbrev pub SpellsPrefix : List Sign → Part → Type 0
   SpellsPrefix [] part = ⊥
   SpellsPrefix (t ∷ ts) part =
@@ -123,7 +123,7 @@ module _ (Inside : List Sign → Part → Type 0) where
       ⊎ ((node : Node) × (child : Part) × (prefix_of t ≡ Some node) × SpellsPrefix ts child
       × (part ≡ over node (child ∷ [])))
 
-  -- such a term to the power of any number of exponents
+  -- a term behind its prefixes, to the power of any number of exponents
   abbrev pub SpellsPower : List Sign → Part → Type 0
   SpellsPower ts part =
       (front : List Sign) × (rest : List Sign) × (base : Part) × (exponents : List LabelSet)

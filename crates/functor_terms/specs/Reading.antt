@@ -1,5 +1,17 @@
 -- Reading terms from tokens, from left to right: what the functions that read terms compute. Only
--- private clauses cite it. That it agrees with what a text spells is proved.
+-- private clauses cite it. That it agrees with what a text spells is proved. A limit is tested
+-- where it may first be passed, so what is read never grows past the limits.
+--
+-- Reads       == what stands at the front of tokens, and the tokens behind it
+-- made_over   == a node over parts that are small enough
+-- items_from  == items with a sign between each two, behind those that were read before
+-- labels_at   == the labels of a constant or an exponent
+-- powers_from == a base to the power of the exponents that follow
+-- chain_at    == the only part of a chain, or the node over its parts
+-- atom_at, base_at, prefix_at, power_at, product_at, sum_at == the forms of the grammar
+-- inside_at   == what stands in parentheses
+-- part_at     == the part that all the tokens spell
+-- Gives       == a function answered what reading gives, unless memory ran out
 use Rattle.std.specs.Prelude.{◌≡◌, ℕ, zero, suc, List, [], ◌∷◌, ◌++◌, length, Bool, ◌&&◌, not, nat_lt, nat_le, Option, Some, None, option_map, option_and_then, is_none, if◌then◌else◌, Result, Ok, Err}
 use Rattle.std.specs.List.{list_all}
 use Rattle.std.specs.Option.{option_map_or}
@@ -91,7 +103,7 @@ labels_at (Digits digits ∷ ts) = below_at (digits_value 10 digits) ts
 labels_at (OpenBrace ∷ ts) = braces_at ts
 labels_at _ = None
 
--- the power by an exponent of which the caret is behind us, and what follows of the power
+-- the base to the power of the exponent that stands at the front
 abbrev pub raised : Part → Reads Part
 raised base ts =
     option_and_then (λ p. made_over (Power p.0) (base ∷ []) p.1) (labels_at ts)
@@ -168,7 +180,7 @@ module _ (inside : ℕ → Reads Part) where
       option_map_or (λ node. over_read node (prefix_at d ts)) (prefix_of t)
       (base_at (inside (suc d)) (t ∷ ts))
 
-  -- such a term and its exponents
+  -- a term behind its prefixes, and its exponents
   unfoldable pub power_at : ℕ → Reads Part
   power_at d ts = option_and_then (λ p. powers_from depth_limit p.0 p.1) (prefix_at d ts)
 
@@ -200,9 +212,3 @@ abbrev pub Gives : {A : Type 0} → Result (A × List Sign) TermFault → Option
 Gives (Ok found) read = read ≡ Some (found.0, found.1)
 Gives (Err Grammar) read = read ≡ None
 Gives (Err NoMemory) read = Unit {0}
-
--- the same of a list that stands in a vector
-abbrev pub GivesItems : {A V : Type 0} → (V → List A) → Result (V × List Sign) TermFault → Option (List A × List Sign) → Type 0
-GivesItems items (Ok found) read = read ≡ Some (items found.0, found.1)
-GivesItems items (Err Grammar) read = read ≡ None
-GivesItems items (Err NoMemory) read = Unit {0}

@@ -4,11 +4,10 @@
 -- Place       == where a byte stands: outside braces, inside, or second of a sign of two bytes
 -- signs_at    == the tokens of bytes that stand at such a place
 -- signs       == the tokens of a functor line
--- HasWord     == a token that is a word has the bytes of a word
 -- is_plus ..  == whether a token is this sign
 use Rattle.std.specs.Prelude.{ℕ, List, [], ◌∷◌, Bool, true, false, ◌&&◌, ◌==◌, if◌then◌else◌}
 use Rattle.std.specs.Char.{is_ascii_digit}
-use Rattle.file_cut.specs.Bytes.{is_blank, is_word_byte, IsWord}
+use Rattle.file_cut.specs.Bytes.{is_blank, is_word_byte}
 use Rattle.functor_terms.specs.declared.sign.Sign.{Sign}
 use Rattle.functor_terms.specs.declared.sign.Sign.TheVariants.{X, P, B, D, N, Z, Q, Plus, Times, Caret, Open, Close, OpenBrace, CloseBrace, Comma, Digits, Word, Stray}
 
@@ -55,7 +54,7 @@ sign_of b =
 abbrev pub cross_first : ℕ
 cross_first = 195
 
--- its second byte
+-- the second byte of the sign `×`
 abbrev pub cross_second : ℕ
 cross_second = 151
 
@@ -76,8 +75,8 @@ abbrev pub sign_outside : ℕ → List ℕ → (Place → List Sign) → List Si
 sign_outside b bytes behind =
     if is_blank b then behind outside
     else (if is_ascii_digit b then
-        (if begins is_ascii_digit bytes then digit_before b (behind outside)
-        else Digits (b ∷ []) ∷ behind outside)
+    (if begins is_ascii_digit bytes then digit_before b (behind outside)
+    else Digits (b ∷ []) ∷ behind outside)
     else (if (b == cross_first) && begins (λ c. c == cross_second) bytes then Times ∷ behind second
     else (if b == brace then OpenBrace ∷ behind inside
     else sign_of b ∷ behind outside)))
@@ -87,8 +86,8 @@ abbrev pub sign_inside : ℕ → List ℕ → (Place → List Sign) → List Sig
 sign_inside b bytes behind =
     if is_blank b then behind inside
     else (if is_word_byte b then
-        (if begins is_word_byte bytes then letter_before b (behind inside)
-        else Word (b ∷ []) ∷ behind inside)
+    (if begins is_word_byte bytes then letter_before b (behind inside)
+    else Word (b ∷ []) ∷ behind inside)
     else (if b == comma then Comma ∷ behind inside
     else (if b == brace_end then CloseBrace ∷ behind outside
     else Stray ∷ behind inside)))
@@ -108,11 +107,6 @@ place_in false = outside
 -- the tokens of a functor line
 abbrev pub signs : List ℕ → List Sign
 signs text = signs_at outside text
-
--- a token that is a word has the bytes of a word
-abbrev pub HasWord : Sign → Type 0
-HasWord (Word word) = IsWord word
-HasWord _ = Unit {0}
 
 -- the token is `+`
 abbrev pub is_plus : Sign → Bool

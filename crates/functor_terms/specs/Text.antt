@@ -9,8 +9,8 @@
 --     Product       the parts with x between them, and spaces around it
 --     Sum           the parts with + between them, and spaces around it
 --
--- A child behind P, B or D is in parentheses if it is a power, a product or a sum; a base and a part
--- of a product if it is a product or a sum; a part of a sum if it is a sum.
+-- A child behind P, B or D is in parentheses if it is a power, a product or a sum. So is a base,
+-- and a part of a product, if it is a product or a sum, and a part of a sum if it is a sum.
 --
 -- Shown            == a text and how loosely it binds
 -- level_of         == how loosely the text of a node binds
@@ -93,7 +93,7 @@ node_text Distribution children = codes "D " ++ within prefix_level (only childr
 node_text Integers children = codes "Z^" ++ enclosed (only children).text
 node_text Rationals children = codes "Q^" ++ enclosed (only children).text
 
--- the same, with how loosely it binds
+-- a node as it is shown over its children
 abbrev pub shown_over : Node → List Shown → Shown
 shown_over node children = shown (level_of node) (node_text node children)
 
