@@ -19,3 +19,6 @@ pub mod FirstSign
 pub mod LoopLaws
 pub mod GiveLaws
 pub mod WordLoop
+pub mod ChainLoop
+pub mod DescentLaws
+pub mod TermReading

@@ -4,15 +4,13 @@
 -- IsToken sign        == digits are decimal digits, and words have the bytes of words
 -- left_behind         == the token that is cut already, before those behind it
 -- others              == the tokens behind the first
--- behind_power        == the tokens behind `^(`
 -- is_bound n          == a constant or an exponent may have n labels
 -- passes wanted sign  == the token is the wanted one
-use Rattle.std.specs.Prelude.{ℕ, ◌<◌, ◌&&◌, nat_lt, nat_le, List, [], ◌∷◌, length, Option, Some, None, Bool, IsTrue, option_and_then}
+use Rattle.std.specs.Prelude.{ℕ, ◌<◌, ◌&&◌, nat_lt, nat_le, List, [], ◌∷◌, length, Option, Some, None, Bool, IsTrue}
 use Rattle.std.specs.Char.{is_ascii_digit}
 use Rattle.std.specs.List.{list_all}
 use Rattle.file_cut.specs.Bytes.{IsWord}
 use Rattle.functor_terms.specs.Terms.{label_limit}
-use Rattle.functor_terms.specs.Reading.{behind_sign}
 use Rattle.functor_terms.specs.Signs.{is_plus, is_times, is_caret, is_open, is_close, is_comma, is_brace_end}
 use Rattle.functor_terms.specs.declared.sign.Sign.{Sign}
 use Rattle.functor_terms.specs.declared.sign.Sign.TheVariants.{Digits, Word}
@@ -39,10 +37,6 @@ left_behind (Some sign) signs = sign ∷ signs
 abbrev pub others : List Sign → List Sign
 others [] = []
 others (sign ∷ signs) = signs
-
--- the tokens behind `^(`
-abbrev pub behind_power : List Sign → Option (List Sign)
-behind_power signs = option_and_then (behind_sign is_open) (behind_sign is_caret signs)
 
 -- a constant or an exponent may have so many labels
 abbrev pub is_bound : ℕ → Bool

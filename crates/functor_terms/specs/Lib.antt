@@ -7,3 +7,4 @@ pub mod Grammar
 pub mod Reading
 pub mod Text
 pub mod Ahead
+pub mod Links

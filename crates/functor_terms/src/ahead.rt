@@ -5,8 +5,8 @@
 //! Seen as: the list of the tokens.
 ghost use Rattle.std.specs.Prelude.{◌≡◌, ◌∷◌, [], List, Some, None, Option, MatchOption, MatchResult};
 ghost use Rattle.functor_terms.specs.Signs.{signs, signs_at, place_in};
-ghost use Rattle.functor_terms.specs.Ahead.{IsToken, others, behind_power, passes as the_passes};
-ghost use Rattle.functor_terms.specs.Reading.{behind_sign};
+ghost use Rattle.functor_terms.specs.Ahead.{IsToken, others, passes as the_passes};
+ghost use Rattle.functor_terms.specs.Reading.{behind_sign, behind_power};
 
 use crate::sign::{First, Sign, first_sign};
 use std::marker::Model;

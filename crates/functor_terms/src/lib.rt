@@ -8,6 +8,7 @@
 #![tactic(auto)]
 
 mod ahead;
+mod chain;
 mod copies;
 mod fault;
 mod label_reading;
@@ -15,9 +16,12 @@ mod label_set;
 mod labels;
 mod laws;
 mod letters;
+mod link;
 mod made;
 mod node;
 mod part;
+mod powers;
+mod reading;
 mod sign;
 mod term;
 mod text;
@@ -29,5 +33,6 @@ pub use labels::Labels;
 pub use laws::{one_reading, texts_are_read_back};
 pub use node::{Branch, LabelSet, Node};
 pub use part::TermPart;
+pub use reading::read_term;
 pub use term::Term;
 pub use text::term_text;
