@@ -1,5 +1,5 @@
 //! The top call.
-ghost use Rattle.std.specs.Prelude.{◌≡◌, ◌≢◌, ◌≤◌, ◌^◌, ◌⊎◌, ℕ, List, length, take, IfSome, IfOk, IfErr, Some, None};
+ghost use Rattle.std.specs.Prelude.{◌≡◌, ◌≢◌, ◌≤◌, ◌^◌, ◌⊎◌, ℕ, List, [], length, take, IfSome, IfOk, IfErr, Some, None};
 ghost use Rattle.std.specs.Io.KnownBytes.{append_known};
 ghost use Rattle.std.specs.FinMap as map;
 ghost use Rattle.outside.specs.Faults.{Rose};
@@ -109,7 +109,8 @@ fn work<F: Folder, O: Sink>(alloc: Global, words: &WordList, folder: &mut F, out
     ensures write_fault { result ≡ Status.WriteFault → Rose (O.faults out.old) (O.faults out.new) }
     ensures written { (bytes : List ℕ) ×
         (O.taken out.new ≡ append_known (O.taken out.old) bytes)
-        × Written words.now (F.files folder.old) result bytes }
+        × Written words.now (F.files folder.old) result bytes
+        × (result ≡ Status.Done → bytes ≡ [] → out.new ≡ out.old) }
     ensures untouched { HasNoOutput result → out.new ≡ out.old }
     ensures files_stay { F.files folder.new ≡ F.files folder.old }
     ensures folder_later { (other : List ℕ) →
@@ -172,10 +173,11 @@ pub fn run<F: Folder, O: Sink, E: Sink, L: Ledger>(
         (file_asked words.now ≡ Some name)
         × Rose (F.faults folder.old name) (F.faults folder.new name) }
     ensures write_fault { result ≡ Status.WriteFault → Rose (O.faults out.old) (O.faults out.new) }
-    // all of the output, a part from its front, or nothing
+    // all of the output, a part from its front, or nothing; an empty output makes no call
     ensures written { (bytes : List ℕ) ×
         (O.taken out.new ≡ append_known (O.taken out.old) bytes)
-        × Written words.now (F.files folder.old) result bytes }
+        × Written words.now (F.files folder.old) result bytes
+        × (result ≡ Status.Done → bytes ≡ [] → out.new ≡ out.old) }
     ensures untouched { HasNoOutput result → out.new ≡ out.old }
     // where the file is accepted and no fault is counted, only memory can be wanting
     ensures complete { (files : Files) (command : Asked) (bytes : List ℕ) →

@@ -19,7 +19,8 @@ returns-clause-complete g c files command bytes told asked accepted quiet_in qui
 pub returns-clause-headline : goal.returns-clause-headline
 returns-clause-headline g c files command bytes term names values told asked accepted quiet_in quiet_out =
     ⊎_elim
-    (λ done. let made = done_writes c.args.words.now files command bytes _ c.work-status.result _ _ told asked done c.work-status.ensures.written in
+    (λ done. let wrote = c.work-status.ensures.written in
+    let made = done_writes c.args.words.now files command bytes _ c.work-status.result _ _ told asked done (wrote.0, wrote.1, wrote.2) in
     inr (made.0, for_reading c.accepted_files_have_one_reading.ensures.one_reading command bytes made.0 term names values accepted made.1, made.2))
     (λ wanting. inl wanting)
     (returns-clause-complete g c files command bytes told asked (term, names, values, accepted) quiet_in quiet_out)

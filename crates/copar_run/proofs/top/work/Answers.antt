@@ -9,4 +9,5 @@ returns-then-put_all-clause-written g c = (
   c.put_all.ensures.whole c.if-put_all.true ∙ ap (append_known (g.O.Sink.taken c.args.out.now)) c.deref.ensures.value,
   answered c.args.words.now (g.F.Folder.files c.args.folder.now) c.in-Some.command c.in-Some.name.now c.in-Ok.output.items
       (sym c.in-Some.ensures.command) (sym c.in-Some.ensures.file) c.in-Ok.ensures.output,
+  λ _ none. c.put_all.ensures.no_call_for_no_byte (c.deref.ensures.value ∙ none),
 )
