@@ -6,3 +6,5 @@ mod Exclusion
 mod NameLaws
 mod Ends
 mod OneReading
+mod MinimalLaws
+mod OnOk

@@ -5,7 +5,8 @@ use Rattle.std.specs.Cmp.Lexicographic.{nat_list_eq_equiv}
 use Rattle.functor_terms.specs.Terms.{Nodes}
 use Rattle.functor_terms.specs.Words.{AreNames, is_same_word}
 use Rattle.typing.specs.declared.value.Value.{Value}
-use Rattle.copar_run.specs.Blocks.{AreBlocks, PrintsEquivalence, name_of}
+use Rattle.quotient_writer.specs.Blocks.{name_of}
+use Rattle.copar_run.specs.Blocks.{AreBlocks, PrintsEquivalence}
 
 -- what holds of all names holds of the name of a state
 each_name : (P : List ℕ → Type 0) (names : List (List ℕ)) → AllByRecursion P names → (i : ℕ) → i < length names → P (name_of names i)

@@ -2,5 +2,7 @@ pub mod Words
 pub mod Whole
 pub mod Reading
 pub mod Blocks
+pub mod Minimal
+pub mod Outputs
 pub mod Outcome
 pub mod Lines

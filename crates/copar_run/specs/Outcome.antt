@@ -5,7 +5,9 @@
 -- Says bytes status            == what the status says of the bytes of the file
 -- Judged file status           == what it says of the file, which is None where it is absent
 -- IsFileFault status           == a fault that the bytes of the file alone decide
--- Answers words files output   == the output is the block list of the file that the words ask for
+-- IsAsked words files command bytes
+--                              == the words ask for the command and for the file with these bytes
+-- Answers words files output   == the output is that of the command and file that the words ask for
 -- Written words files s bytes  == the bytes are what was written under the status s
 -- HasNoOutput status           == nothing is written under the status
 -- IsQuiet before now           == a count did not rise, and is not at its end
@@ -16,8 +18,10 @@ use Rattle.std.specs.FinMap as map
 use Rattle.outside.specs.Faults.{last_count}
 use Rattle.copar_run.specs.declared.status.Status.{Status}
 use Rattle.copar_run.specs.declared.status.Status.TheVariants.{Done, Usage, Grammar, TypeFault, ReadFault, WriteFault, NoMemory, TooLong, NotBuilt}
-use Rattle.copar_run.specs.Words.{file_asked}
-use Rattle.copar_run.specs.Reading.{LacksFunctor, IsNotBuilt, IsMisfit, AreAccepted, IsBlockList}
+use Rattle.copar_run.specs.declared.words.Command.{Command}
+use Rattle.copar_run.specs.Words.{command_asked, file_asked}
+use Rattle.copar_run.specs.Reading.{LacksFunctor, IsNotBuilt, IsMisfit, AreAccepted}
+use Rattle.copar_run.specs.Outputs.{IsOutput}
 
 -- the number that the program ends with
 abbrev pub code_of : Status → ℕ
@@ -70,17 +74,20 @@ IsFileFault TooLong = ⊤
 IsFileFault NotBuilt = ⊤
 IsFileFault _ = ⊥
 
--- the words ask for this file, and its bytes are within the bound
-pub record IsAsked (words : List (List ℕ)) (files : Files) (bytes : List ℕ) : Type 0 where
+-- the words ask for the command and for the file with these bytes, which are within the bound
+pub record IsAsked
+    (words : List (List ℕ)) (files : Files) (command : Command) (bytes : List ℕ) : Type 0 where
+  pub ordered : command_asked words ≡ Some command
   pub name : List ℕ
   pub asked : file_asked words ≡ Some name
   pub there : map.get files name ≡ Some bytes
   pub within : length bytes ≤ most_bytes
 
--- the output is the block list of the file that the words ask for
+-- the output is that of the command and the file that the words ask for
 abbrev pub Answers : List (List ℕ) → Files → List ℕ → Type 0
 Answers words files output =
-    (bytes : List ℕ) × IsAsked words files bytes × IsBlockList bytes output
+    (command : Command) × (bytes : List ℕ) ×
+    IsAsked words files command bytes × IsOutput command bytes output
 
 -- what was written under a status: the whole output, a part of it from the front, or nothing
 abbrev pub Written : List (List ℕ) → Option Files → Status → List ℕ → Type 0

@@ -7,16 +7,14 @@
 -- IsMisfit bytes line kind     == the first fault of the flat lines is of this line and kind
 -- IsAccepted bytes term ..     == the flat lines have no fault, and denote this coalgebra
 -- OneReading                   == a file denotes one coalgebra at most
--- IsBlockList bytes output     == the output is the block list of the coalgebra that the bytes are
+-- AreAccepted bytes            == they denote some coalgebra
 use Rattle.std.specs.Prelude.{◌≡◌, ◌≢◌, ℕ, ◌+◌, List, [], length, Some, None}
 use Rattle.file_cut.specs.Lines.{lines_of}
-use Rattle.functor_terms.specs.Words.{AreNames}
 use Rattle.functor_terms.specs.Terms.{Nodes}
 use Rattle.typing.specs.declared.kind.TypeKind.{TypeKind}
 use Rattle.typing.specs.declared.value.Value.{Value}
 use Rattle.flat_files.specs.declared.row.Row.{Row}
 use Rattle.flat_files.specs.Rows.{AreRows, feed_count, fault_of, IsReadAs}
-use Rattle.copar_run.specs.Blocks.{AreBlocks, block_text}
 
 -- there is no line but skipped ones, and this is the number of line feeds and one
 abbrev pub LacksFunctor : List ℕ → ℕ → Type 0
@@ -48,20 +46,8 @@ OneReading =
     IsAccepted bytes term names values → IsAccepted bytes other words structures →
     (other ≡ term) × (words ≡ names) × (structures ≡ values)
 
--- the bytes are accepted
+-- the bytes denote some coalgebra
 abbrev pub AreAccepted : List ℕ → Type 0
 AreAccepted bytes =
     (term : Nodes) × (names : List (List ℕ)) × (values : List Value) ×
     IsAccepted bytes term names values
-
--- the output is the block list of the coalgebra that the bytes denote
-pub record IsBlockList (bytes output : List ℕ) : Type 0 where
-  pub term : Nodes
-  pub names : List (List ℕ)
-  pub values : List Value
-  pub firsts : List ℕ
-  pub accepted : IsAccepted bytes term names values
-  pub distinct : AreNames names
-  pub one_each : length values ≡ length names
-  pub blocks : AreBlocks term values firsts
-  pub text : output ≡ block_text names firsts

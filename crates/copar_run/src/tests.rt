@@ -3,19 +3,15 @@
 ghost use Rattle.std.specs.Prelude.{◌≡◌, ◌<◌};
 
 use crate::lines::put_line;
+use crate::tables::{FOUR, LISTED, MINIMISED, MISFITS, NOT_BUILT, WITHOUT_FUNCTOR};
 use crate::{Status, WordList, run};
 use outside::{MemFolder, MemSink, Steps};
 use std::alloc::{AllocError, Global};
 use std::marker::Brand;
+use std::process::Abort;
 use std::sync::ledger::{Blank, Ledger};
 use std::test::Fail;
 use typing::TypeKind;
-
-const FOUR: &[u8] = b"P X\na: {b}\nb: {a}\nc: {}\nd: {c, a}\n";
-
-const UNKNOWN: TypeKind = TypeKind::UnknownState;
-
-const REPEATED: TypeKind = TypeKind::RepeatedState;
 
 /// What a run did.
 #[derive(Drop)]
@@ -49,14 +45,15 @@ fn counted<L: Ledger>(
     run(alloc, words, folder, out, err, &mut steps)
 }
 
-/// A run of `blocks F` over this folder. The sink for the output takes at most 4 bytes at a write.
+/// A run of the command on F over this folder. The sink for the output takes at most 4 bytes at a write.
 fn run_in(
     alloc: Global,
+    command: &str,
     mut folder: MemFolder,
     failing_writes: &[u64],
     failing_lines: &[u64],
 ) -> Result<Seen, AllocError> {
-    let words = words_of(alloc, &["blocks", "F"])?;
+    let words = words_of(alloc, &[command, "F"])?;
     let mut out = MemSink::new(alloc, 1000, 4, failing_writes)?;
     let mut err = MemSink::new(alloc, 1000, 1000, failing_lines)?;
     let blank = Blank::new(1);
@@ -78,190 +75,112 @@ fn by_thousands(alloc: Global, file: &[u8], failing: &[u64]) -> Result<MemFolder
     Ok(folder)
 }
 
-/// A file, and how a run on it ends.
-#[derive(Drop)]
-struct File<'a> {
-    about: &'a str,
-    bytes: &'a [u8],
+/// Asserts how runs of the command on the file end, and what they write.
+fn ends(
+    rt: &impl Abort,
+    alloc: Global,
+    command: &str,
+    about: &str,
+    file: &[u8],
     status: Status,
-    out: &'a [u8],
-}
-
-fn blocks<'a>(about: &'a str, bytes: &'a [u8], out: &'a [u8]) -> File<'a> {
-    let status = Status::Done;
-    File {
-        about,
-        bytes,
-        status,
-        out,
-    }
-}
-
-fn no_functor<'a>(about: &'a str, bytes: &'a [u8], line: u32) -> File<'a> {
-    let status = Status::Grammar { line };
-    let out = b"";
-    File {
-        about,
-        bytes,
-        status,
-        out,
-    }
-}
-
-fn not_built<'a>(about: &'a str, bytes: &'a [u8]) -> File<'a> {
-    let status = Status::NotBuilt;
-    let out = b"";
-    File {
-        about,
-        bytes,
-        status,
-        out,
-    }
-}
-
-fn misfit<'a>(about: &'a str, bytes: &'a [u8], line: u32, kind: TypeKind) -> File<'a> {
-    let status = Status::TypeFault { line, kind };
-    let out = b"";
-    File {
-        about,
-        bytes,
-        status,
-        out,
-    }
+    out: &[u8],
+) -> Result<(), AllocError> {
+    let seen = run_in(alloc, command, by_bytes(alloc, file)?, &[], &[])?;
+    assert_eq!(rt; seen.status, status, "{command}, {about}");
+    assert_eq!(rt; seen.out.bytes(), out, "{command}, {about}");
+    let again = run_in(alloc, command, by_thousands(alloc, file, &[])?, &[], &[])?;
+    assert_eq!(rt; again.status, status, "{command}, {about}, by thousands");
+    assert_eq!(rt; again.out.bytes(), out, "{command}, {about}, by thousands");
+    Ok(())
 }
 
 #[test]
-fn each_file_ends_as_the_format_says(rt: HostRuntime) -> Result<(), Fail> {
+fn blocks_lists_the_first_state_of_each_block(rt: HostRuntime) -> Result<(), Fail> {
+    for (about, file, out) in LISTED {
+        ends(&rt, rt.alloc(), "blocks", about, file, Status::Done, out)?;
+    }
+    Ok(())
+}
+
+#[test]
+fn minimise_prints_one_state_for_each_block(rt: HostRuntime) -> Result<(), Fail> {
+    for (about, file, out) in MINIMISED {
+        ends(&rt, rt.alloc(), "minimise", about, file, Status::Done, out)?;
+        // and prints the same bytes where it is given what it printed
+        ends(&rt, rt.alloc(), "minimise", about, out, Status::Done, out)?;
+    }
+    Ok(())
+}
+
+#[test]
+fn each_fault_is_told_with_its_line(rt: HostRuntime) -> Result<(), Fail> {
+    for command in ["blocks", "minimise"] {
+        for (about, file, line) in WITHOUT_FUNCTOR {
+            let status = Status::Grammar { line: *line };
+            ends(&rt, rt.alloc(), command, about, file, status, b"")?;
+        }
+        for (about, file) in NOT_BUILT {
+            ends(&rt, rt.alloc(), command, about, file, Status::NotBuilt, b"")?;
+        }
+        for (about, file, line, kind) in MISFITS {
+            let status = Status::TypeFault {
+                line: *line,
+                kind: *kind,
+            };
+            ends(&rt, rt.alloc(), command, about, file, status, b"")?;
+        }
+    }
+    Ok(())
+}
+
+/// A number below k, by a linear congruence.
+fn below(seed: &mut u64, k: u8) -> u8
+    requires { 0 < k }
+    ensures { result < k }
+{
+    *seed = seed
+        .wrapping_mul(6364136223846793005)
+        .wrapping_add(1442695040888963407);
+    ((*seed >> 33) % u64::from(k)) as u8
+}
+
+/// A file of one to eight states with up to three members each.
+fn generated(alloc: Global, seed: &mut u64) -> Result<Vec<u8>, AllocError> {
+    let mut text = Vec::new(alloc);
+    text.extend_from_slice(b"P X\n")?;
+    let states = below(seed, 8) + 1;
+    for i in 0..states {
+        text.extend_from_slice(&[b's', b'0' + i])?;
+        text.extend_from_slice(b": {")?;
+        for j in 0..below(seed, 4) {
+            if 0 < j {
+                text.extend_from_slice(b", ")?;
+            }
+            text.extend_from_slice(&[b's', b'0' + below(seed, states)])?;
+        }
+        text.extend_from_slice(b"}\n")?;
+    }
+    Ok(text)
+}
+
+#[test]
+fn minimising_twice_prints_the_same_bytes(rt: HostRuntime) -> Result<(), Fail> {
     let alloc = rt.alloc();
-    let files = [
-        blocks("four states", FOUR, b"a a\nb a\nc c\nd d\n"),
-        blocks("a functor line alone", b"P X", b""),
-        blocks("no blank in it", b"PX\n", b""),
-        blocks("blanks, a tab and a return", b" P\tX \r\n", b""),
-        blocks(
-            "skipped lines before it",
-            b"# sets\n\n \t# more\nP X\n",
-            b"",
-        ),
-        blocks("a return at the end of the file", b"P X\na: {}\r", b"a a\n"),
-        blocks(
-            "bytes past ASCII",
-            b"P X\n\xff\x80: {\xff\x80}\n",
-            b"\xff\x80 \xff\x80\n",
-        ),
-        blocks(
-            "a name before its line",
-            b"P X\na: {b}\nb: {}\n",
-            b"a a\nb b\n",
-        ),
-        blocks(
-            "a member twice",
-            b"P X\nx: {y, y, z}\ny: {}\nz: {}\n",
-            b"x x\ny y\nz y\n",
-        ),
-        blocks(
-            "blanks anywhere",
-            b"P X\n\t a \t:\t{ b\t,  a } \n b:{}\n",
-            b"a a\nb b\n",
-        ),
-        blocks(
-            "each sign of a word",
-            b"P X\n_'.-/@$!?: {}\n",
-            b"_'.-/@$!? _'.-/@$!?\n",
-        ),
-        blocks("digits are names", b"P X\n0: {1}\n1: {0}\n", b"0 0\n1 0\n"),
-        blocks(
-            "injured is a name",
-            b"P X\ninjured: {}\n",
-            b"injured injured\n",
-        ),
-        no_functor("no byte", b"", 1),
-        no_functor("a note", b"# nothing\n", 2),
-        no_functor("a note without its end", b"# nothing", 1),
-        no_functor("blank lines", b"\n\n \t\n", 4),
-        no_functor("returns before line feeds", b"\r\n\r\n", 3),
-        no_functor("notes behind blanks", b"  # a\n\t# b\r\n", 3),
-        not_built("another functor", b"D X\n"),
-        not_built("another functor, and a misfit", b"D X\na: {zz}\n"),
-        not_built("a letter more", b"P X X\n"),
-        not_built("a letter too few", b"P\n"),
-        not_built("parentheses", b"(P X)\n"),
-        not_built("a note behind the functor", b"P X # sets\n"),
-        not_built("two returns", b"P X\r\r\n"),
-        not_built("a byte order mark", b"\xef\xbb\xbfP X\n"),
-        not_built("parentheses for braces", b"P X\na: (a)\n"),
-        not_built("braces left open", b"P X\na: {b"),
-        not_built("the head inj", b"P X\ninj: {}\n"),
-        not_built("the member inj", b"P X\na: {inj}\n"),
-        not_built("a comma too many", b"P X\na: {a,}\n"),
-        not_built("a comma too few", b"P X\na: {a a}\n"),
-        not_built("no colon", b"P X\na {}\n"),
-        not_built("no head", b"P X\n: {}\n"),
-        not_built("a line with a note behind it", b"P X\na: {} # end\n"),
-        not_built("a number sign in a head", b"P X\na#: {}\n"),
-        not_built("a return inside a line", b"P X\na: {}\rb: {}\n"),
-        not_built("a byte 0", b"P X\na\x00: {}\n"),
-        not_built("a weight", b"P X\na: {a: 1}\n"),
-        not_built("a set of sets", b"P X\na: {{}}\n"),
-        not_built("two sets", b"P X\na: {} {}\n"),
-        not_built(
-            "a misfit, and then a form that is not built",
-            b"P X\na: {zz}\nb: (a)\n",
-        ),
-        misfit("a member that is no state", b"P X\na: {zz}\n", 2, UNKNOWN),
-        misfit("the last line without its end", b"P X\na: {b}", 2, UNKNOWN),
-        misfit(
-            "a line behind a blank",
-            b"P X\na: {}\n b: {zz}\n",
-            3,
-            UNKNOWN,
-        ),
-        misfit("a head twice", b"P X\na: {}\na: {}\n", 3, REPEATED),
-        misfit(
-            "and then a member that is no state",
-            b"P X\na: {}\na: {zz}\n",
-            3,
-            REPEATED,
-        ),
-        misfit(
-            "no state, and later a head twice",
-            b"P X\na: {zz}\na: {}\n",
-            2,
-            UNKNOWN,
-        ),
-        misfit(
-            "a head twice, and later no state",
-            b"P X\na: {}\na: {}\nb: {zz}\n",
-            3,
-            REPEATED,
-        ),
-        misfit(
-            "no state, twice",
-            b"P X\na: {a}\nb: {zz}\nc: {zz}\n",
-            3,
-            UNKNOWN,
-        ),
-        misfit(
-            "among skipped lines",
-            b"# c\r\nP X\r\n\r\n# d\r\na: {zz}\r\n",
-            5,
-            UNKNOWN,
-        ),
-        misfit(
-            "behind skipped lines",
-            b"P X\n\n\na: {b}\n  # x\nb: {c}\n",
-            6,
-            UNKNOWN,
-        ),
-        misfit("another case", b"P X\na: {A}\n", 2, UNKNOWN),
-    ];
-    for file in files {
-        let seen = run_in(alloc, by_bytes(alloc, file.bytes)?, &[], &[])?;
-        assert_eq!(rt; seen.status, file.status, "{}", file.about);
-        assert_eq!(rt; seen.out.bytes(), file.out, "{}", file.about);
-        let again = run_in(alloc, by_thousands(alloc, file.bytes, &[])?, &[], &[])?;
-        assert_eq!(rt; again.status, file.status, "{} by thousands", file.about);
-        assert_eq!(rt; again.out.bytes(), file.out, "{} by thousands", file.about);
+    let mut seed = 0u64;
+    for number in 0..1000u32 {
+        let file = generated(alloc, &mut seed)?;
+        let once = run_in(
+            alloc,
+            "minimise",
+            by_thousands(alloc, &file, &[])?,
+            &[],
+            &[],
+        )?;
+        assert_eq!(rt; once.status, Status::Done, "file {number}");
+        let printed = by_thousands(alloc, once.out.bytes(), &[])?;
+        let twice = run_in(alloc, "minimise", printed, &[], &[])?;
+        assert_eq!(rt; twice.status, Status::Done, "file {number}");
+        assert_eq!(rt; twice.out.bytes(), once.out.bytes(), "file {number}");
     }
     Ok(())
 }
@@ -270,13 +189,13 @@ fn each_file_ends_as_the_format_says(rt: HostRuntime) -> Result<(), Fail> {
 fn a_failing_outside_is_told(rt: HostRuntime) -> Result<(), Fail> {
     let alloc = rt.alloc();
     // the output sink fails at its write 1
-    let seen = run_in(alloc, by_thousands(alloc, FOUR, &[])?, &[1], &[])?;
+    let seen = run_in(alloc, "blocks", by_thousands(alloc, FOUR, &[])?, &[1], &[])?;
     assert_eq!(rt; seen.status, Status::WriteFault);
     assert_eq!(rt; seen.out.bytes(), b"a a\n".as_slice());
     assert_eq!(rt; seen.err.bytes(), b"copar: write fault\n".as_slice());
     // the folder fails at its read 0, and at the last read of an empty file
     for file in [FOUR, b""] {
-        let seen = run_in(alloc, by_thousands(alloc, file, &[0])?, &[], &[])?;
+        let seen = run_in(alloc, "blocks", by_thousands(alloc, file, &[0])?, &[], &[])?;
         assert_eq!(rt; seen.status, Status::ReadFault);
         assert_eq!(rt; seen.out.bytes(), b"".as_slice());
         assert_eq!(rt; seen.err.bytes(), b"copar: read fault\n".as_slice());
@@ -284,12 +203,18 @@ fn a_failing_outside_is_told(rt: HostRuntime) -> Result<(), Fail> {
     // the folder has no such file
     let mut folder = MemFolder::new(alloc, 1000, &[])?;
     folder.add("G", FOUR)?;
-    let seen = run_in(alloc, folder, &[], &[])?;
+    let seen = run_in(alloc, "blocks", folder, &[], &[])?;
     assert_eq!(rt; seen.status, Status::ReadFault);
     assert_eq!(rt; seen.out.bytes(), b"".as_slice());
     assert_eq!(rt; seen.err.bytes(), b"copar: read fault\n".as_slice());
     // an output without a byte makes no write
-    let seen = run_in(alloc, by_thousands(alloc, b"P X\n", &[])?, &[0], &[])?;
+    let seen = run_in(
+        alloc,
+        "blocks",
+        by_thousands(alloc, b"P X\n", &[])?,
+        &[0],
+        &[],
+    )?;
     assert_eq!(rt; seen.status, Status::Done);
     assert_eq!(rt; seen.err.bytes(), b"".as_slice());
     Ok(())
@@ -300,7 +225,7 @@ fn a_failing_line_changes_no_status(rt: HostRuntime) -> Result<(), Fail> {
     let alloc = rt.alloc();
     let fault = Status::TypeFault {
         line: 2,
-        kind: UNKNOWN,
+        kind: TypeKind::UnknownState,
     };
     let fronts: [&[u8]; 4] = [
         b"",
@@ -311,7 +236,7 @@ fn a_failing_line_changes_no_status(rt: HostRuntime) -> Result<(), Fail> {
     let mut number = 0u64;
     for front in fronts {
         let folder = by_thousands(alloc, b"P X\na: {zz}\n", &[])?;
-        let seen = run_in(alloc, folder, &[], &[number])?;
+        let seen = run_in(alloc, "blocks", folder, &[], &[number])?;
         assert_eq!(rt; seen.status, fault, "where write {number} fails");
         assert_eq!(rt; seen.out.bytes(), b"".as_slice());
         assert_eq!(rt; seen.err.bytes(), front, "where write {number} fails");
@@ -395,7 +320,7 @@ fn fault(kind: TypeKind) -> Status {
 #[test]
 fn other_words_are_refused_with_help(rt: HostRuntime) -> Result<(), Fail> {
     let alloc = rt.alloc();
-    let rows: [(&[&str], &[u8]); 7] = [
+    let rows: [(&[&str], &[u8]); 9] = [
         (
             &[],
             b"copar: the words name no command\nusage: copar blocks FILE\n",
@@ -407,6 +332,14 @@ fn other_words_are_refused_with_help(rt: HostRuntime) -> Result<(), Fail> {
         (
             &["blocks", "F", "a"],
             b"copar: the command blocks takes one file and no further word\nusage: copar blocks F",
+        ),
+        (
+            &["minimise"],
+            b"copar: the command minimise wants a file\nusage: copar blocks FILE\n",
+        ),
+        (
+            &["minimise", "F", "a"],
+            b"copar: the command minimise takes one file and no further word\nusage: copar bloc",
         ),
         (
             &["frobnicate", "F"],
@@ -435,7 +368,7 @@ fn other_words_are_refused_with_help(rt: HostRuntime) -> Result<(), Fail> {
         assert_eq!(rt; status, Status::Usage);
         assert_eq!(rt; out.bytes(), b"".as_slice());
         assert!(rt; err.bytes().starts_with(front));
-        assert!(rt; err.bytes().ends_with(b"shut shut\n"));
+        assert!(rt; err.bytes().ends_with(b"shut: {}\n"));
     }
     Ok(())
 }
@@ -451,7 +384,7 @@ fn run_on_feeds(alloc: Global, size: usize) -> Result<Seen, AllocError> {
     let mut folder = MemFolder::new(alloc, 1_000_000, &[])?;
     folder.add("F", &bytes)?;
     drop(bytes);
-    run_in(alloc, folder, &[], &[])
+    run_in(alloc, "blocks", folder, &[], &[])
 }
 
 #[test]

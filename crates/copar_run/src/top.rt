@@ -1,5 +1,5 @@
 //! The top call.
-ghost use Rattle.std.specs.Prelude.{◌≡◌, ◌≢◌, ◌≤◌, ◌^◌, ◌⊎◌, ℕ, List, length, take, IfSome, IfOk, IfErr, Some, None};
+ghost use Rattle.std.specs.Prelude.{◌≡◌, ◌≢◌, ◌≤◌, ◌^◌, ◌⊎◌, ℕ, List, [], length, take, IfSome, IfOk, IfErr, Some, None};
 ghost use Rattle.std.specs.Io.KnownBytes.{append_known};
 ghost use Rattle.std.specs.FinMap as map;
 ghost use Rattle.outside.specs.Faults.{Rose};
@@ -7,31 +7,31 @@ ghost use Rattle.copar_run.specs.declared.status.Status.{Status as Ending};
 ghost use Rattle.copar_run.specs.Words.{file_asked};
 ghost use Rattle.functor_terms.specs.Terms.{Nodes};
 ghost use Rattle.typing.specs.declared.value.Value.{Value};
-ghost use Rattle.copar_run.specs.Blocks.{AreBlocks, PrintsEquivalence, block_text};
-ghost use Rattle.copar_run.specs.Reading.{AreAccepted, IsAccepted, IsBlockList};
+ghost use Rattle.copar_run.specs.declared.words.Command.{Command as Asked};
+ghost use Rattle.copar_run.specs.Reading.{AreAccepted, IsAccepted};
+ghost use Rattle.copar_run.specs.Outputs.{Prints, IsOutput};
 ghost use Rattle.copar_run.specs.Lines.{line_of};
 ghost use Rattle.copar_run.specs.Outcome.{Files, Judged, Says, IsFileFault, IsAsked, Answers, Written, IsRefusal, HasNoOutput, IsQuiet, most_bytes};
 
-use crate::blocks::blocks_text;
 use crate::laws::accepted_files_have_one_reading;
 use crate::lines::put_line;
+use crate::outputs::output_of;
 use crate::usage::put_usage;
 use crate::whole::{ReadAll, put_all, read_all};
-use crate::words::file_word;
+use crate::words::{Command, asked};
 use crate::{Status, WordList};
 use flat_files::{FlatFault, read_flat};
 use outside::{Folder, Sink, Steps};
-use rounds::first_equivalents;
 use std::alloc::Global;
 use std::sync::ledger::Ledger;
 
 /// The most bytes that a file may have.
 const MOST_BYTES: u64 = 67_108_864;
 
-/// The block list of the coalgebra that the bytes denote, or why there is none.
-fn block_list(alloc: Global, bytes: &[u8]) -> Result<Vec<u8>, Status>
+/// What the command prints for the coalgebra that the bytes denote, or why there is no output.
+fn output_for(alloc: Global, command: Command, bytes: &[u8]) -> Result<Vec<u8>, Status>
     requires { length bytes.now ≤ 2 ^ 26 }
-    ensures block_list { IfOk result (λ output. IsBlockList bytes.now output.items) }
+    ensures output { IfOk result (λ output. IsOutput command bytes.now output.items) }
     ensures fault { IfErr result (λ status. Says bytes.now status) }
     ensures refusal { IfErr result IsRefusal }
     ensures no_read { result ≢ Err Status.ReadFault }
@@ -43,11 +43,8 @@ fn block_list(alloc: Global, bytes: &[u8]) -> Result<Vec<u8>, Status>
         Err(FlatFault::Misfit { line, kind }) => return Err(Status::TypeFault { line, kind }),
         Err(FlatFault::NoMemory) => return Err(Status::NoMemory),
     };
-    let Ok(firsts) = first_equivalents(alloc, &c) else {
-        return Err(Status::NoMemory);
-    };
-    match blocks_text(alloc, &c.names, &firsts) {
-        Ok(text) => Ok(text),
+    match output_of(alloc, command, &c) {
+        Ok(output) => Ok(output),
         Err(_) => Err(Status::NoMemory),
     }
 }
@@ -74,11 +71,16 @@ fn file_bytes<F: Folder>(alloc: Global, folder: &mut F, name: &str) -> Result<Ve
     }
 }
 
-/// The output for a file of the folder, or why there is none.
-fn output_for<F: Folder>(alloc: Global, folder: &mut F, name: &str) -> Result<Vec<u8>, Status>
+/// What the command prints for a file of the folder, or why there is no output.
+fn answer<F: Folder>(
+    alloc: Global,
+    command: Command,
+    folder: &mut F,
+    name: &str,
+) -> Result<Vec<u8>, Status>
     ensures output { IfOk result (λ output. IfSome (F.files folder.old) (λ files.
         (bytes : List ℕ) × (map.get files name.now ≡ Some bytes) × (length bytes ≤ most_bytes)
-        × IsBlockList bytes output.items)) }
+        × IsOutput command bytes output.items)) }
     ensures judged { IfErr result (λ status. IfSome (F.files folder.old) (λ files.
         Judged (map.get files name.now) status)) }
     ensures refusal { IfErr result IsRefusal }
@@ -89,7 +91,7 @@ fn output_for<F: Folder>(alloc: Global, folder: &mut F, name: &str) -> Result<Ve
         F.faults folder.old other ≤ F.faults folder.new other }
 {
     match file_bytes(alloc, folder, name) {
-        Ok(bytes) => block_list(alloc, &bytes),
+        Ok(bytes) => output_for(alloc, command, &bytes),
         Err(refusal) => Err(refusal),
     }
 }
@@ -107,17 +109,18 @@ fn work<F: Folder, O: Sink>(alloc: Global, words: &WordList, folder: &mut F, out
     ensures write_fault { result ≡ Status.WriteFault → Rose (O.faults out.old) (O.faults out.new) }
     ensures written { (bytes : List ℕ) ×
         (O.taken out.new ≡ append_known (O.taken out.old) bytes)
-        × Written words.now (F.files folder.old) result bytes }
+        × Written words.now (F.files folder.old) result bytes
+        × (result ≡ Status.Done → bytes ≡ [] → out.new ≡ out.old) }
     ensures untouched { HasNoOutput result → out.new ≡ out.old }
     ensures files_stay { F.files folder.new ≡ F.files folder.old }
     ensures folder_later { (other : List ℕ) →
         F.faults folder.old other ≤ F.faults folder.new other }
     ensures out_later { O.faults out.old ≤ O.faults out.new }
 {
-    let Some(name) = file_word(words) else {
+    let Some((command, name)) = asked(words) else {
         return Status::Usage;
     };
-    match output_for(alloc, folder, name) {
+    match answer(alloc, command, folder, name) {
         Ok(output) => {
             if put_all(out, &output) {
                 Status::Done
@@ -170,29 +173,31 @@ pub fn run<F: Folder, O: Sink, E: Sink, L: Ledger>(
         (file_asked words.now ≡ Some name)
         × Rose (F.faults folder.old name) (F.faults folder.new name) }
     ensures write_fault { result ≡ Status.WriteFault → Rose (O.faults out.old) (O.faults out.new) }
-    // all of the output, a part from its front, or nothing
+    // all of the output, a part from its front, or nothing; an empty output makes no call
     ensures written { (bytes : List ℕ) ×
         (O.taken out.new ≡ append_known (O.taken out.old) bytes)
-        × Written words.now (F.files folder.old) result bytes }
+        × Written words.now (F.files folder.old) result bytes
+        × (result ≡ Status.Done → bytes ≡ [] → out.new ≡ out.old) }
     ensures untouched { HasNoOutput result → out.new ≡ out.old }
     // where the file is accepted and no fault is counted, only memory can be wanting
-    ensures complete { (files : Files) (bytes : List ℕ) → F.files folder.old ≡ Some files →
-        IsAsked words.now files bytes → AreAccepted bytes →
-        ((name : List ℕ) → file_asked words.now ≡ Some name →
+    ensures complete { (files : Files) (command : Asked) (bytes : List ℕ) →
+        F.files folder.old ≡ Some files → IsAsked words.now files command bytes →
+        AreAccepted bytes → ((name : List ℕ) → file_asked words.now ≡ Some name →
         IsQuiet (F.faults folder.old name) (F.faults folder.new name)) →
         IsQuiet (O.faults out.old) (O.faults out.new) →
         (result ≡ Status.Done) ⊎ (result ≡ Status.NoMemory) }
-    // then `out` got the block list of the coalgebra that the file denotes: two states share a
-    // printed block exactly if they are behaviourally equivalent
-    ensures headline { (files : Files) (bytes : List ℕ) (term : Nodes) (names : List (List ℕ))
-        (values : List Value) → F.files folder.old ≡ Some files →
-        IsAsked words.now files bytes → IsAccepted bytes term names values →
+    // then `out` got what the command prints for the coalgebra that the file denotes. For `blocks`,
+    // two states share a printed block exactly if they are behaviourally equivalent; for
+    // `minimise`, it is the quotient, and no two of its states are equivalent
+    ensures headline { (files : Files) (command : Asked) (bytes : List ℕ) (term : Nodes)
+        (names : List (List ℕ)) (values : List Value) → F.files folder.old ≡ Some files →
+        IsAsked words.now files command bytes → IsAccepted bytes term names values →
         ((name : List ℕ) → file_asked words.now ≡ Some name →
         IsQuiet (F.faults folder.old name) (F.faults folder.new name)) →
         IsQuiet (O.faults out.old) (O.faults out.new) →
-        (result ≡ Status.NoMemory) ⊎ ((firsts : List ℕ) × AreBlocks term values firsts
-        × PrintsEquivalence term names values firsts
-        × (O.taken out.new ≡ append_known (O.taken out.old) (block_text names firsts))) }
+        (result ≡ Status.NoMemory)
+        ⊎ ((output : List ℕ) × Prints command term names values output
+        × (O.taken out.new ≡ append_known (O.taken out.old) output)) }
     ensures line { result ≢ Status.Usage → IsQuiet (E.faults err.old) (E.faults err.new) →
         E.taken err.new ≡ append_known (E.taken err.old) (line_of result) }
     ensures line_front { result ≢ Status.Usage → (n : ℕ) ×

@@ -1,7 +1,7 @@
 //! The words of the command line.
 ghost use Rattle.std.specs.Prelude.{◌≡◌, ◌<◌, [], ◌∷◌, ◌++◌, length, OnOk, OnErr, Some, slice_get};
 ghost use Rattle.std.specs.Option.{option_map};
-ghost use Rattle.copar_run.specs.Words.{file_asked};
+ghost use Rattle.copar_run.specs.Words.{command_named as the_command_named, command_asked, file_asked};
 
 use std::alloc::{AllocError, Global};
 use std::marker::Model;
@@ -58,13 +58,36 @@ impl WordList {
     }
 }
 
-/// The file that the words ask for.
-pub(crate) fn file_word(words: &WordList) -> Option<&str>
-    ensures file_of_blocks { option_map (λ word. word.now) result ≡ file_asked words.now }
+/// What the program can be asked to print.
+#[derive(Clone, Copy, Debug, PartialEq, Eq)]
+pub(crate) enum Command {
+    /// The block of each state.
+    Blocks,
+    /// The quotient by the blocks.
+    Minimise,
+}
+
+/// The command of this name.
+pub(crate) fn command_named(word: &str) -> Option<Command>
+    ensures command { result ≡ the_command_named word.now }
 {
-    if words.len() == 2 && words.word(0) == "blocks" {
-        Some(words.word(1))
+    if word == "blocks" {
+        Some(Command::Blocks)
+    } else if word == "minimise" {
+        Some(Command::Minimise)
     } else {
         None
     }
+}
+
+/// The command and the file that the words ask for.
+pub(crate) fn asked(words: &WordList) -> Option<(Command, &str)>
+    ensures command { option_map (λ asked. asked.0) result ≡ command_asked words.now }
+    ensures file { option_map (λ asked. asked.1.now) result ≡ file_asked words.now }
+{
+    if words.len() != 2 {
+        return None;
+    }
+    let command = command_named(words.word(0))?;
+    Some((command, words.word(1)))
 }

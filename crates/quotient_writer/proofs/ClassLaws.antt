@@ -33,7 +33,8 @@ module _ (t : Nodes) (values : List Value) (firsts : List ℕ) (stable : IsStabl
       )
 
   module _ (labels : List ℕ) (same : first_states labels ≡ firsts) where
-    count : length labels ≡ length values
+    -- there is one for each state
+    pub count : length labels ≡ length values
     count = sym (let e : length (first_states labels) ≡ length labels = rw length-map refl in e) ∙ ap length same ∙ stable.covers
 
     first_is : (i : ℕ) → i < length labels → first_state labels (slice_index labels i) ≡ slice_index firsts i
@@ -47,6 +48,11 @@ module _ (t : Nodes) (values : List Value) (firsts : List ℕ) (stable : IsStabl
 
     finer : (i j : ℕ) → i < length values → j < length values → slice_index firsts i ≡ slice_index firsts j → slice_index labels i ≡ slice_index labels j
     finer i j hi hj e = sym (own i (omega (arith, hi, count))) ∙ ap (slice_index labels) e ∙ own j (omega (arith, hj, count))
+
+    -- states with one number have one first state
+    pub labels-part : (i j : ℕ) → i < length values → j < length values → slice_index labels i ≡ slice_index labels j → slice_index firsts i ≡ slice_index firsts j
+    labels-part i j hi hj e =
+        sym (first_is i (omega (arith, hi, count))) ∙ ap (first_state labels) e ∙ first_is j (omega (arith, hj, count))
 
     -- a list of numbers for them is stable
     pub labels-stable : list_all (states_below (length values)) values ≡ true → IsStable t values labels

@@ -2,6 +2,7 @@
 ghost use Rattle.std.specs.Prelude.{◌≡◌, ◌++◌, length, IsTrue, IfOk, OnOk};
 ghost use Rattle.std.specs.List.{list_all};
 ghost use Rattle.functor_terms.specs.Spelling.{sets_of_states};
+ghost use Rattle.functor_terms.specs.Words.{AreNames};
 ghost use Rattle.typing.specs.Values.{states_below};
 ghost use Rattle.quotient_writer.specs.Texts.{member_name, member_names, state_line, text_of};
 
@@ -14,6 +15,7 @@ pub fn quotient_text(alloc: Global, q: &Coalgebra) -> Result<Vec<u8>, AllocError
     requires sets { q.now.term ≡ sets_of_states }
     ensures canonical { IfOk result (λ text.
         text.items ≡ text_of q.now.names q.now.values.items) }
+    ensures distinct { IfOk result (λ _. AreNames q.now.names) }
 {
     let mut text = Vec::new(alloc);
     text.extend_from_slice(b"P X\n")?;

@@ -1,9 +1,5 @@
-use Rattle.std.proofs.Common.{◌≡◌, IfSome, Some, subst, sym}
-use Rattle.std.specs.FinMap as map
-use Rattle.copar_run.proofs.Ends.{judged_there}
+use Rattle.std.proofs.Common.{rules}
 use Rattle.copar_run.proofs.top.output_for.Goals as goal
 
-pub returns-in-Ok-clause-judged : goal.returns-in-Ok-clause-judged
-returns-in-Ok-clause-judged g c =
-    judged_there c.block_list.result (g.F.Folder.files c.args.folder.now) c.args.name.now c.deref.result.now c.block_list.ensures.fault
-    (subst (λ bytes. IfSome (g.F.Folder.files c.args.folder.now) (λ files. map.get files c.args.name.now ≡ Some bytes)) (sym c.deref.ensures.value) c.in-Ok.ensures.whole_file)
+pub returns-in-Err-NotBuilt-clause-fault : goal.returns-in-Err-NotBuilt-clause-fault
+returns-in-Err-NotBuilt-clause-fault c = (c.requires, c.in-Err-NotBuilt.ensures.not_built (search rules))
