@@ -1,0 +1,5 @@
+pub mod Order
+pub mod Parting
+pub mod Cutting
+pub mod Walking
+pub mod Splits
