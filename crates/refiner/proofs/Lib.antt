@@ -3,3 +3,5 @@ pub mod Parting
 pub mod Cutting
 pub mod Walking
 pub mod Splits
+pub mod Sizes
+pub mod Waiting

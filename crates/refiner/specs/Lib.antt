@@ -1,2 +1,4 @@
 pub mod Grouping
+pub mod Making
 pub mod Runs
+pub mod Waiting
