@@ -1,0 +1,6 @@
+pub mod Grouping
+pub mod History
+pub mod Making
+pub mod Recompute
+pub mod Runs
+pub mod Waiting
