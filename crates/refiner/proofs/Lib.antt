@@ -10,6 +10,7 @@ pub mod Walking
 pub mod Splits
 pub mod Sizes
 pub mod Waiting
+pub mod Apart
 pub mod RoundMade
 pub mod Append
 pub mod Halves

@@ -1,6 +1,6 @@
 -- A round of the code is a round of the history.
 use Rattle.std.proofs.Common.{◌≡◌, ◌≢◌, ◌+◌, ◌*◌, ◌<◌, ◌≤◌, ◌==◌, ℕ, zero, suc, Bool, true, false, cond, List, [], ◌∷◌, ◌++◌, length, map, get_or, set, refl, sym, ◌∙◌, ap, subst, inl, inr, arith, Some, None, Option}
-use Rattle.std.specs.Prelude.{Contains, All, AllPairs, Any, slice_get}
+use Rattle.std.specs.Prelude.{Contains, All, AllPairs, Any, slice_get, ◌↔◌}
 use Rattle.std.proofs.lemmas.Bool.{eq-eqb, ne_eqb, cases_eq, cases_order}
 use Rattle.std.proofs.lemmas.List.{get_or_default, get_or_append_left, get_or_push, get_or-map, ext_get_or, length-set, get_or-set_same, get_or-set_other}
 use Rattle.std.proofs.lemmas.List.Elements.{All-weaker}
@@ -15,7 +15,9 @@ use Rattle.refiner.specs.History.{Moment, IsRound, IsSplit, round_trit, coarse_a
 use Rattle.refiner.specs.Grouping.{value_at, IsSplitBy, AreCut, HasMember, WentTo}
 use Rattle.refiner.specs.Making.{moment_of, trit_in, AreTorn, IsTakenOut, AreValues, AreReady}
 use Rattle.refiner.proofs.Keeps.{Below, map_same, length-map}
+use Rattle.refiner.proofs.Apart.{cut_apart}
 use Rattle.refiner.proofs.Cutting.{any_weaker}
+use Rattle.refiner.proofs.Lists.{apart_same}
 
 pub length-coarse_after : (bs cs : List ℕ) (r : Round) → length cs ≡ length bs → length (coarse_after bs cs r) ≡ length bs
 length-coarse_after [] cs r e = refl
@@ -80,6 +82,24 @@ module _ {Shape Label : Type 0} (node : Shape → ℕ) (value : Shape → List L
   member : (b : ℕ) (part : Part) → HasMember b p p2 part → Contains p2.block part.block
   member b part m = contains_at p2.block m.0 part.block (omega (arith, m.1, cut.states)) m.3
 
+  -- a part has exactly the members of the parent with its value
+  part_is : (s : Split) → IsSplitBy values p p2 s → (k : ℕ) (d : Part) → k < length s.parts.items → (x : ℕ) → x < length system →
+      (class_in p2.block x ≡ (get_or s.parts.items k d).block) ↔ ((class_in p.block x ≡ s.parent) × HasValue value system (round_trit before r) x (get_or s.parts.items k d).three)
+  part_is s by_ k d h x hx =
+      let part : Part = get_or s.parts.items k d in
+      let m : HasMember s.parent p p2 part = by_.none_empty k d h in
+      let hxp : x < states_of p = omega (arith, n_is) in
+      let at : get_or s.parts.items k part ≡ part = get_or_default s.parts.items k part d h in
+      (λ e. (
+        let here : block_at p x ≡ s.parent = (cut_apart values p p2 r.splits.items cut ready.in_blocks x m.0 hxp m.1 (e ∙ sym m.3)).0 ∙ m.2 in
+        let goes : Any (WentTo values p2 x) s.parts.items = by_.each_goes x hxp here in
+        let one : goes.1 ≡ part = apart_same (λ (t : Part). t.block) s.parts.items by_.numbers_apart goes.0 k goes.1 part goes.2 h goes.3 at (sym goes.4.0 ∙ e) in
+        (here, has x part.three hx (goes.4.1 ∙ ap (λ (t : Part). t.three) one))),
+       λ both. (
+        let goes : Any (WentTo values p2 x) s.parts.items = by_.each_goes x hxp both.0 in
+        let one : goes.1 ≡ part = apart_same (λ (t : Part). t.three) s.parts.items by_.values_apart goes.0 k goes.1 part goes.2 h goes.3 at (sym goes.4.1 ∙ sym (has_only x part.three both.1)) in
+        goes.4.0 ∙ ap (λ (t : Part). t.block) one))
+
   split_is : (s : Split) → IsSplitBy values p p2 s → IsSplit node value system before after r s
   split_is s by_ = record {
     live = (let m = by_.none_empty 0 (record { block = 0; three = value_at values 0 }) (omega (arith, by_.two)) in contains_at p.block m.0 s.parent m.1 m.2);
@@ -90,7 +110,8 @@ module _ {Shape Label : Type 0} (node : Shape → ℕ) (value : Shape → List L
     others_new = All-weaker (λ (t : Part). t.block ≢ s.parent → (p.count ≤ t.block) × (t.block < p2.count)) (λ (t : Part). t.block ≢ s.parent → ¬ Contains p.block t.block)
       (λ t h ne found. (let e : block_at p found.0 ≡ t.block = get_or_default p.block found.0 0 t.block found.1 ∙ found.2 in omega (arith, (h ne).0, e, ready.in_blocks found.0 found.1))) s.parts.items by_.others_new;
     none_empty = All-weaker (HasMember s.parent p p2) (λ (t : Part). Contains p2.block t.block) (member s.parent) s.parts.items by_.none_empty;
-    each_goes = λ x hx e. any_weaker (WentTo values p2 x) (λ (t : Part). (class_in p2.block x ≡ t.block) × HasValue value system (round_trit before r) x t.three) s.parts.items (λ t w. (w.0, has x t.three hx w.1)) (by_.each_goes x (omega (arith, n_is)) e);
+    each_in = λ x hx e. any_weaker (WentTo values p2 x) (λ (t : Part). class_in p2.block x ≡ t.block) s.parts.items (λ t w. w.0) (by_.each_goes x (omega (arith, n_is)) e);
+    exactly = λ k d h x hx. part_is s by_ k d h x hx;
   }
 
   coarse_next : (x : ℕ) → x < states_of p → get_or numbers2 (block_at q2 x) 0 ≡ cond (block_at p x == r.splitter) r.inner (cond (class_in before.coarse x == r.coarse) r.outer (class_in before.coarse x))

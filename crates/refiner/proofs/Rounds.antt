@@ -1,6 +1,6 @@
 -- What each round of a legal history keeps, from the laws of the interface alone.
 use Rattle.std.proofs.Common.{◌≡◌, ◌≢◌, ◌+◌, ◌*◌, ◌<◌, ◌≤◌, ℕ, zero, suc, List, [], ◌∷◌, length, map, get_or, refl, sym, ◌∙◌, ap, subst, inl, inr, arith}
-use Rattle.std.specs.Prelude.{All, Any, Contains}
+use Rattle.std.specs.Prelude.{All, Any, Contains, ◌↔◌}
 use Rattle.std.proofs.lemmas.Bool.Decides.{nat_tests, eqb_tells}
 use Rattle.std.proofs.lemmas.List.{get_or_default}
 use Rattle.std.proofs.lemmas.Option.{slice_get_cases, slice_get_within}
@@ -58,11 +58,18 @@ module _ {Shape Label : Type 0} (node : Shape → ℕ) (kin : Shape → Shape �
     split_is : (k : ℕ) (s : Split) → k < length r.splits.items → get_or r.splits.items k s ≡ s → IsSplit node value system before after r s
     split_is k s h e = all_at (λ (t : Split). IsSplit node value system before after r t) r.splits.items k s round.splits h e
 
+    -- a member of a split block goes to the part that has its value
+    goes_to : (s : Split) → IsSplit node value system before after r s → (x : ℕ) → x < length system → old x ≡ s.parent → Any (λ (p : Part). (later x ≡ p.block) × Val x p.three) s.parts.items
+    goes_to s split x hx e =
+        let found = split.each_in x hx e in
+        let both = (all_at (λ (p : Part). (y : ℕ) → y < length system → (later y ≡ p.block) ↔ ((old y ≡ s.parent) × Val y p.three)) s.parts.items found.0 found.1 split.exactly found.2 found.3 x hx).0 found.4 in
+        (found.0, found.1, found.2, found.3, (found.4, both.1))
+
     -- a member of a split block meets no member of a block that is no parent
     clash : (k : ℕ) (s : Split) (x y : ℕ) → k < length r.splits.items → get_or r.splits.items k s ≡ s → s.parent ≡ old x → x < length system → y < length system → y < length before.blocks → All (λ (t : Split). t.parent ≢ old y) r.splits.items → later x ≡ later y → ⊥
     clash k s x y hk ek parent hx hy hyb none same =
         let split : IsSplit node value system before after r s = split_is k s hk ek in
-        let goes : Any (λ (p : Part). (later x ≡ p.block) × Val x p.three) s.parts.items = split.each_goes x hx (sym parent) in
+        let goes : Any (λ (p : Part). (later x ≡ p.block) × Val x p.three) s.parts.items = goes_to s split x hx (sym parent) in
         let part_is : goes.1.block ≡ old y = sym goes.4.0 ∙ same ∙ round.others_stay y hy none in
         elim (eqb_tells goes.1.block s.parent) [
           inl keeps ↦ all_at (λ (t : Split). t.parent ≢ old y) r.splits.items k s none hk ek (sym keeps.1 ∙ part_is)
@@ -72,8 +79,8 @@ module _ {Shape Label : Type 0} (node : Shape → ℕ) (kin : Shape → Shape �
     -- two members of split blocks that meet came from one block
     met : (k l : ℕ) (s t : Split) (x y : ℕ) → k < length r.splits.items → l < length r.splits.items → get_or r.splits.items k s ≡ s → get_or r.splits.items l t ≡ t → s.parent ≡ old x → t.parent ≡ old y → x < length system → y < length system → later x ≡ later y → s ≡ t
     met k l s t x y hk hl ek el px py hx hy same =
-        let goes : Any (λ (p : Part). (later x ≡ p.block) × Val x p.three) s.parts.items = (split_is k s hk ek).each_goes x hx (sym px) in
-        let comes : Any (λ (p : Part). (later y ≡ p.block) × Val y p.three) t.parts.items = (split_is l t hl el).each_goes y hy (sym py) in
+        let goes : Any (λ (p : Part). (later x ≡ p.block) × Val x p.three) s.parts.items = goes_to s (split_is k s hk ek) x hx (sym px) in
+        let comes : Any (λ (p : Part). (later y ≡ p.block) × Val y p.three) t.parts.items = goes_to t (split_is l t hl el) y hy (sym py) in
         let meet : goes.1.block ≡ comes.1.block = sym goes.4.0 ∙ same ∙ comes.4.0 in
         elim (pair_either (λ (u : Split). λ (w : Split). All (λ (p : Part). All (λ (q : Part). p.block ≢ q.block) w.parts.items) u.parts.items) r.splits.items round.news_apart k l s t hk hl ek el) [
           inl apart ↦ absurd (all_at (λ (q : Part). goes.1.block ≢ q.block) t.parts.items comes.0 comes.1 (all_at (λ (p : Part). All (λ (q : Part). p.block ≢ q.block) t.parts.items) s.parts.items goes.0 goes.1 apart goes.2 goes.3) comes.2 comes.3 meet)
@@ -89,8 +96,8 @@ module _ {Shape Label : Type 0} (node : Shape → ℕ) (kin : Shape → Shape �
           let equal : found.1 ≡ also.1 = met found.0 also.0 found.1 also.1 x y found.2 also.2 found.3 also.3 found.4 also.4 hx hy same in
           let olds : old x ≡ old y = sym found.4 ∙ ap (λ (s : Split). s.parent) equal ∙ also.4 in
           let split : IsSplit node value system before after r found.1 = split_is found.0 found.1 found.2 found.3 in
-          let goes : Any (λ (p : Part). (later x ≡ p.block) × Val x p.three) found.1.parts.items = split.each_goes x hx (sym found.4) in
-          let comes : Any (λ (p : Part). (later y ≡ p.block) × Val y p.three) found.1.parts.items = split.each_goes y hy (sym olds ∙ sym found.4) in
+          let goes : Any (λ (p : Part). (later x ≡ p.block) × Val x p.three) found.1.parts.items = goes_to found.1 split x hx (sym found.4) in
+          let comes : Any (λ (p : Part). (later y ≡ p.block) × Val y p.three) found.1.parts.items = goes_to found.1 split y hy (sym olds ∙ sym found.4) in
           let parts : goes.1 ≡ comes.1 = apart_same (λ (p : Part). p.block) found.1.parts.items split.numbers_apart goes.0 comes.0 goes.1 comes.1 goes.2 comes.2 goes.3 comes.3 (sym goes.4.0 ∙ same ∙ comes.4.0) in
           (olds, same_value (round_trit before r) x v goes.1.three vx goes.4.1 ∙ ap (λ (p : Part). p.three) parts ∙ same_value (round_trit before r) y comes.1.three w comes.4.1 wy))
       | inr none ↦ absurd (clash found.0 found.1 x y found.2 found.3 found.4 hx hy (subst (λ n. y < n) (sym each) hy) none same) ]
@@ -105,8 +112,8 @@ module _ {Shape Label : Type 0} (node : Shape → ℕ) (kin : Shape → Shape �
     block_after x y v hx hy vx vy same = elim (find_number (λ (s : Split). s.parent) r.splits.items (old x)) [
       inl found ↦ (
         let split : IsSplit node value system before after r found.1 = split_is found.0 found.1 found.2 found.3 in
-        let goes : Any (λ (p : Part). (later x ≡ p.block) × Val x p.three) found.1.parts.items = split.each_goes x hx (sym found.4) in
-        let comes : Any (λ (p : Part). (later y ≡ p.block) × Val y p.three) found.1.parts.items = split.each_goes y hy (sym same ∙ sym found.4) in
+        let goes : Any (λ (p : Part). (later x ≡ p.block) × Val x p.three) found.1.parts.items = goes_to found.1 split x hx (sym found.4) in
+        let comes : Any (λ (p : Part). (later y ≡ p.block) × Val y p.three) found.1.parts.items = goes_to found.1 split y hy (sym same ∙ sym found.4) in
         let parts : goes.1 ≡ comes.1 = apart_same (λ (p : Part). p.three) found.1.parts.items split.values_apart goes.0 comes.0 goes.1 comes.1 goes.2 comes.2 goes.3 comes.3 (same_value (round_trit before r) x goes.1.three v goes.4.1 vx ∙ same_value (round_trit before r) y v comes.1.three vy comes.4.1) in
         goes.4.0 ∙ ap (λ (p : Part). p.block) parts ∙ sym comes.4.0)
       | inr stays ↦ round.others_stay x hx stays ∙ same ∙ sym (round.others_stay y hy (subst (λ n. All (λ (s : Split). s.parent ≢ n) r.splits.items) same stays)) ]

@@ -88,20 +88,25 @@ module _
         (class_in m.blocks x ≡ p.block) ↔ (HasNode x p.node × Has (λ _. 2) x p.three)) start
 
   -- The parent of a split is a live block. There are at least two parts, with distinct values and
-  -- distinct numbers, and none is empty. Each member of the parent goes to a part that has its value.
-  -- One part keeps the parent's number, and each other part has a new number.
+  -- distinct numbers, and none is empty. One part keeps the parent's number, and each other part has
+  -- a new number. Each member of the parent is in a part, and each part has exactly those members of
+  -- the parent that have the part's value.
   pub record IsSplit (before after : Moment) (r : Round) (s : Split) : Type 0 where
     pub live : Contains before.blocks s.parent
     pub two : 2 ≤ length s.parts.items
     pub values_apart : AllPairs (λ (p : Part). λ (q : Part). p.three ≢ q.three) s.parts.items
     pub numbers_apart : AllPairs (λ (p : Part). λ (q : Part). p.block ≢ q.block) s.parts.items
+    pub none_empty : All (λ (p : Part). Contains after.blocks p.block) s.parts.items
     pub one_keeps : Any (λ (p : Part). p.block ≡ s.parent) s.parts.items
     pub others_new :
         All (λ (p : Part). p.block ≢ s.parent → ¬ Contains before.blocks p.block) s.parts.items
-    pub none_empty : All (λ (p : Part). Contains after.blocks p.block) s.parts.items
-    pub each_goes :
+    pub each_in :
         (x : ℕ) → x < length system → class_in before.blocks x ≡ s.parent →
-        Any (λ (p : Part). (class_in after.blocks x ≡ p.block) × Has (round_trit before r) x p.three)
+        Any (λ (p : Part). class_in after.blocks x ≡ p.block) s.parts.items
+    pub exactly :
+        All (λ (p : Part). (x : ℕ) → x < length system →
+        (class_in after.blocks x ≡ p.block)
+        ↔ ((class_in before.blocks x ≡ s.parent) × Has (round_trit before r) x p.three))
         s.parts.items
 
   -- The splitter is a live block and a proper part of its coarse block. In round r, counted from 0,
