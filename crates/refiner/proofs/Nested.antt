@@ -9,7 +9,7 @@ use Rattle.refiner.specs.declared.history.Round.{Round}
 use Rattle.refinable_partition.specs.Blocks.{Blocks, block_at, states_of}
 use Rattle.sorted_systems.specs.Systems.{Sorted, IsState, IsSystem, IsGreatestStable, class_in}
 use Rattle.refiner.specs.History.{Moment, IsStart, AreRounds, last_moment}
-use Rattle.refiner.specs.Making.{moment_of, AreReady, AreSingle}
+use Rattle.refiner.specs.Making.{moment_of, AreNumbered, AreSingle}
 use Rattle.refiner.proofs.Keeps.{IsGood}
 use Rattle.refiner.proofs.Rounds.{Holds}
 use Rattle.refiner.proofs.Ends.{start_holds, rounds_keep, ends_greatest}
@@ -19,7 +19,7 @@ module _ {Shape Label : Type 0} (node : Shape → ℕ) (kin : Shape → Shape �
   pub good : (x : ℕ) (a : Sorted Shape Label) → IsState system x a → IsGood node kin fits value agree laws (length system) a
   good x a at = record { in_range = below_from_all (length system) a.targets (sys.in_range x a at); one_each = sys.one_each x a at; fit = sys.fit x a at }
 
-  pub nested_now : (start : List Start) (first : Moment) → IsStart node value system start first → (later : List Moment) (rounds : List Round) → AreRounds node value system 0 first later rounds → (p q : Blocks) (numbers : List ℕ) → last_moment first later ≡ moment_of p q numbers → AreReady p q numbers → states_of p ≡ length system
+  pub nested_now : (start : List Start) (first : Moment) → IsStart node value system start first → (later : List Moment) (rounds : List Round) → AreRounds node value system 0 first later rounds → (p q : Blocks) (numbers : List ℕ) → last_moment first later ≡ moment_of p q numbers → AreNumbered p q numbers → states_of p ≡ length system
     → (u v : ℕ) → u < states_of p → v < states_of p → block_at p u ≡ block_at p v → block_at q u ≡ block_at q v
   nested_now start first starts later rounds legal p q numbers now ready n u v hu hv e =
       let held = rounds_keep node kin fits value agree laws system good 0 first later rounds legal (start_holds node kin fits value agree laws system good sys.same_kind start first starts) in
@@ -32,7 +32,7 @@ module _ {Shape Label : Type 0} (node : Shape → ℕ) (kin : Shape → Shape �
       | inr other ↦ absurd (apart_places numbers (block_at q u) (block_at q v) ready.numbers_apart (omega (arith, ready.in_coarse u hu, ready.one_number)) (omega (arith, ready.in_coarse v hv, ready.one_number)) other numbered) ]
 
   -- where no coarse block has two blocks, the blocks are the greatest stable labelling
-  pub greatest_now : (start : List Start) (first : Moment) → IsStart node value system start first → (later : List Moment) (rounds : List Round) → AreRounds node value system 0 first later rounds → (p q : Blocks) (numbers : List ℕ) → last_moment first later ≡ moment_of p q numbers → AreReady p q numbers → states_of p ≡ length system → AreSingle p q → IsGreatestStable agree system p.block
+  pub greatest_now : (start : List Start) (first : Moment) → IsStart node value system start first → (later : List Moment) (rounds : List Round) → AreRounds node value system 0 first later rounds → (p q : Blocks) (numbers : List ℕ) → last_moment first later ≡ moment_of p q numbers → AreNumbered p q numbers → states_of p ≡ length system → AreSingle p q → IsGreatestStable agree system p.block
   greatest_now start first starts later rounds legal p q numbers now ready n single =
       let held = rounds_keep node kin fits value agree laws system good 0 first later rounds legal (start_holds node kin fits value agree laws system good sys.same_kind start first starts) in
       let held2 : Holds node kin fits value agree laws system good held.0 (moment_of p q numbers) = subst (λ (m : Moment). Holds node kin fits value agree laws system good held.0 m) now held.1 in

@@ -13,7 +13,7 @@ use Rattle.refinable_partition.specs.Blocks.{Blocks, block_at, states_of}
 use Rattle.sorted_systems.specs.Systems.{Sorted, IsState, HasValue, class_in}
 use Rattle.refiner.specs.History.{Moment, IsRound, IsSplit, round_trit, coarse_after}
 use Rattle.refiner.specs.Grouping.{value_at, IsSplitBy, AreCut, HasMember, WentTo}
-use Rattle.refiner.specs.Making.{moment_of, trit_in, AreTorn, IsTakenOut, AreValues, AreReady}
+use Rattle.refiner.specs.Making.{moment_of, trit_in, AreTorn, IsTakenOut, AreValues, AreNumbered}
 use Rattle.refiner.proofs.Keeps.{Below, map_same, length-map}
 use Rattle.refiner.proofs.Apart.{cut_apart}
 use Rattle.refiner.proofs.Cutting.{any_weaker}
@@ -42,7 +42,7 @@ apart_places numbers i j apart hi hj ne e = elim (cases_order i j) [
   | inr rest ↦ elim rest [ inl less ↦ apart i j 0 less hj e | inr more ↦ apart j i 0 more hi (sym e) ] ]
 
 module _ {Shape Label : Type 0} (node : Shape → ℕ) (value : Shape → List Label → List ℕ → Three) (system : List (Sorted Shape Label)) (in_range : (x : ℕ) (a : Sorted Shape Label) → IsState system x a → Below (length system) a.targets)
-    (p q : Blocks) (numbers : List ℕ) (ready : AreReady p q numbers) (n_is : states_of p ≡ length system)
+    (p q : Blocks) (numbers : List ℕ) (ready : AreNumbered p q numbers) (n_is : states_of p ≡ length system)
     (nested : (x y : ℕ) → x < states_of p → y < states_of p → block_at p x ≡ block_at p y → block_at q x ≡ block_at q y)
     (number c x0 y0 : ℕ) (r : Round) (torn : AreTorn p q x0 y0) (s_is : r.splitter ≡ block_at p x0) (c_is : c ≡ block_at q x0) (coarse_is : r.coarse ≡ get_or numbers c 0) (inner_is : r.inner ≡ 2 * number + 1) (outer_is : r.outer ≡ 2 * number + 2)
     (values : List Three) (vals : AreValues value system (trit_in p q r.splitter c) values)

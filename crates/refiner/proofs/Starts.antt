@@ -1,5 +1,5 @@
 -- The states split by node, and then by value.
-use Rattle.std.proofs.Common.{◌≡◌, ◌≢◌, ◌+◌, ◌<◌, ◌≤◌, ◌⊎◌, ℕ, zero, suc, List, [], ◌∷◌, ◌++◌, length, map, get_or, replicate, refl, sym, ◌∙◌, ap, subst, inl, inr, arith, Some}
+use Rattle.std.proofs.Common.{◌≡◌, ◌≢◌, ◌+◌, ◌<◌, ◌≤◌, ◌⊎◌, ℕ, zero, suc, List, [], ◌∷◌, ◌++◌, length, map, get_or, replicate, refl, sym, ◌∙◌, ap, subst, inl, inr, arith, Some, Vec, Global, ◌*◌}
 use Rattle.std.specs.Prelude.{All, AllPairs, Any, Contains, slice_get, slice_index_or}
 use Rattle.std.proofs.lemmas.Bool.{cases_eq}
 use Rattle.std.proofs.lemmas.Bool.Decides.{eqb_tells}
@@ -14,10 +14,11 @@ use Rattle.sorted_systems.specs.Systems.{Sorted, IsState, system_from}
 use Rattle.refiner.specs.declared.history.Part.{Part}
 use Rattle.refiner.specs.declared.history.Split.{Split}
 use Rattle.refiner.specs.declared.history.Start.{Start}
-use Rattle.refiner.specs.Grouping.{value_at, WentTo, IsSplitBy, AreApart, AreCut}
+use Rattle.refiner.specs.declared.progress.Progress.{Progress}
+use Rattle.refiner.specs.Grouping.{value_at, IsUnmarked, AreCut}
 use Rattle.refiner.specs.History.{IsStart, HasNode, Has}
-use Rattle.refiner.specs.Waiting.{AreWaiting}
-use Rattle.refiner.specs.Making.{AreValues, AreByNodeAndValue, IsStartBlock, first_moment, moment_of}
+use Rattle.refiner.specs.Ready.{IsBegun, IsReady, moment_at}
+use Rattle.refiner.specs.Making.{AreValues, AreByNodeAndValue, IsStartBlock, first_moment}
 use Rattle.refiner.proofs.Lists.{all_at, apart_same, pair_either, find_number, element_at}
 use Rattle.refiner.proofs.Apart.{in_blocks_after, cut_together, cut_apart}
 use Rattle.refiner.proofs.RoundMade.{contains_at, state_at}
@@ -152,29 +153,68 @@ all_zero (x ∷ xs) none (suc c) = all_zero xs (λ k h. none (suc k) (omega arit
 -- so the first moment is that of the two partitions
 pub moment_starts :
     {Shape Tag : Type 0} (node : Shape → ℕ) (value : Shape → List Tag → List ℕ → Three)
-    (system : List (Sorted Shape Tag)) (start : List Start) (p q : Blocks) (numbers : List ℕ) (n m : ℕ) →
-    IsStart node value system start (first_moment system p) → q.block ≡ replicate n 0 →
-    n ≡ length system → numbers ≡ replicate m 0 →
-    IsStart node value system start (moment_of p q numbers)
-moment_starts node value system start p q numbers n m starts one size zeros =
-    let none : (c : ℕ) → get_or numbers c 0 ≡ 0 =
-          all_zero numbers (λ k h. ap (λ l. get_or l k 0) zeros ∙ get_or-replicate m k 0 0 (omega (arith, h, ap length zeros, length-replicate {A = ℕ} m 0))) in
-    let same : map (λ c. get_or numbers c 0) q.block ≡ map (λ _. 0) system =
-          first_coarse (λ c. get_or numbers c 0) q.block system (ap length one ∙ length-replicate n 0 ∙ size) none in
-    subst (λ cs. IsStart node value system start (record { blocks = p.block; coarse = cs })) (sym same) starts
+    (system : List (Sorted Shape Tag)) (start : List Start) (begun after : Progress) →
+    IsStart node value system start (first_moment system after.blocks) →
+    IsBegun (length system) begun → after.coarse ≡ begun.coarse → after.numbers ≡ begun.numbers →
+    IsStart node value system start (moment_at after)
+moment_starts {Shape} {Tag} node value system start begun after starts is coarse numbers =
+    let n : ℕ = length system in
+    let items : List ℕ = after.numbers.items in
+    let zeros : items ≡ replicate begun.coarse.count 0 =
+          ap (λ (v : Vec ℕ Global). v.items) numbers ∙ is.numbers in
+    let none : (c : ℕ) → get_or items c 0 ≡ 0 =
+          all_zero items
+          (λ k h. ap (λ l. get_or l k 0) zeros
+          ∙ get_or-replicate begun.coarse.count k 0 0 (omega (arith, h, ap length zeros, length-replicate {A = ℕ} begun.coarse.count 0))) in
+    let one : after.coarse.block ≡ replicate n 0 = ap (λ (q : Blocks). q.block) coarse ∙ is.coarse in
+    let same : map (λ c. get_or items c 0) after.coarse.block ≡ map (λ _. 0) system =
+          first_coarse (λ c. get_or items c 0) after.coarse.block system (ap length one ∙ length-replicate n 0) none in
+    subst (λ cs. IsStart node value system start (record { blocks = after.blocks.block; coarse = cs })) (sym same) starts
 
--- and the one coarse block is in the list of those that may have several blocks
-pub waiting_zeros :
-    (p q : Blocks) (waiting : List ℕ) (n : ℕ) → q.block ≡ replicate n 0 → n ≡ states_of p →
-    (0 < n → q.count ≡ 1) → waiting ≡ replicate q.count 0 → AreWaiting p q waiting
-waiting_zeros p q waiting n one states some zeros =
-    let many : length waiting ≡ q.count = ap length zeros ∙ length-replicate {A = ℕ} q.count 0 in
-    let at : (k d : ℕ) → k < q.count → get_or waiting k d ≡ 0 =
-          λ k d h. ap (λ l. get_or l k d) zeros ∙ get_or-replicate q.count k 0 d h in
+-- a list of zeros has no other number
+no_more : (xs : List ℕ) (n m : ℕ) → xs ≡ replicate n 0 → All (λ k. k ≤ m) xs
+no_more xs n m zeros k d h =
+    let hk : k < n = omega (arith, h, ap length zeros, length-replicate {A = ℕ} n 0) in
+    omega (arith, ap (λ l. get_or l k d) zeros, get_or-replicate n k 0 d hk)
+
+-- and the first round may begin
+pub ready_begun :
+    (n : ℕ) (p : Progress) (blocks : Blocks) → IsBegun n p → states_of blocks ≡ n →
+    ((x : ℕ) → x < n → block_at blocks x < blocks.count) → IsUnmarked blocks →
+    IsReady n 0 (record p { blocks = blocks })
+ready_begun n p blocks begun states in_range unmarked =
+    let coarse_states : states_of p.coarse ≡ n = ap length begun.coarse ∙ length-replicate n 0 in
+    let zero_at : (x : ℕ) → x < n → block_at p.coarse x ≡ 0 =
+          λ x hx. ap (λ l. get_or l x 0) begun.coarse ∙ get_or-replicate n x 0 0 hx in
+    let count : (x : ℕ) → x < n → p.coarse.count ≡ 1 = λ x hx. begun.one (omega arith) in
+    let many : length p.waiting.items ≡ p.coarse.count = ap length begun.waiting ∙ length-replicate {A = ℕ} p.coarse.count 0 in
+    let numbers : length p.numbers.items ≡ p.coarse.count = ap length begun.numbers ∙ length-replicate {A = ℕ} p.coarse.count 0 in
     record {
-      live = λ k d h. (let hk : k < q.count = omega (arith, h, many) in omega (arith, at k d hk, hk));
-      every = λ x y hx hy same other. (
-          let count : q.count ≡ 1 = some (omega (arith, hx, states)) in
-          let zero_x : block_at q x ≡ 0 = ap (λ l. get_or l x 0) one ∙ get_or-replicate n x 0 0 (omega (arith, hx, states)) in
-          (0, omega (arith, many, count), at 0 (block_at q x) (omega (arith, count)) ∙ sym zero_x));
+      states = states;
+      numbered = record {
+        states = coarse_states ∙ sym states;
+        in_blocks = λ x hx. in_range x (omega (arith, states));
+        in_coarse = λ x hx. (let h : x < n = omega (arith, states) in omega (arith, zero_at x h, count x h));
+        one_number = numbers;
+        numbers_apart = λ i j d hij hj. absurd (omega (arith, begun.few, numbers));
+      };
+      numbers_small = no_more p.numbers.items p.coarse.count (2 * 0) begun.numbers;
+      few = few_of n p.coarse.count begun.few begun.none;
+      unmarked = unmarked;
+      coarse_unmarked = begun.coarse_unmarked;
+      one_scan = ap length begun.scans ∙ length-replicate {A = ℕ} n 0;
+      scans_small = no_more p.scans.items n 0 begun.scans;
+      waiting = record {
+        live = λ k d h. (
+          let hk : k < p.coarse.count = omega (arith, many) in
+          omega (arith, ap (λ l. get_or l k d) begun.waiting, get_or-replicate p.coarse.count k 0 d hk, hk));
+        every = λ x y hx hy same other. (
+          let h : x < n = omega (arith, states) in
+          let hk : 0 < p.coarse.count = omega (arith, count x h) in
+          (0, omega (arith, many, hk), ap (λ l. get_or l 0 (block_at p.coarse x)) begun.waiting ∙ get_or-replicate p.coarse.count 0 0 (block_at p.coarse x) hk ∙ sym (zero_at x h)));
+      };
     }
+    where
+    few_of : (m c : ℕ) → c ≤ 1 → (m ≡ 0 → c ≡ 0) → c ≤ m
+    few_of zero c few none = omega (arith, none refl)
+    few_of (suc m) c few none = omega arith

@@ -2,7 +2,7 @@
 --     moment_of, first_moment     the moment of two partitions, and the one before the first round
 --     trit_in, AreValues          the trit of a target, and the values of all states
 --     AreNested, AreSingle, AreTorn, IsHalf    how the blocks lie in the coarse blocks
---     IsTakenOut, AreReady        a splitter's coarse block, and what a round needs
+--     IsTakenOut, AreNumbered     a splitter's coarse block; a number for each coarse block
 --     AreByNodeAndValue, IsStartBlock    the start blocks
 --     LeadsTo                     rounds lead from one moment to another
 use Rattle.std.specs.Prelude.{◌≡◌, ◌≢◌, ◌*◌, ◌<◌, ◌≤◌, ◌==◌, if◌then◌else◌, ℕ, List, length, map, slice_index, AllPairs}
@@ -89,8 +89,8 @@ pub record IsStartBlock
   pub three_is : value_at values member ≡ start.three
   pub node_is : (a : Sorted Shape Label) → IsState system member a → node a.shape ≡ start.node
 
--- two partitions before a round, and the numbers of the coarse blocks
-pub record AreReady (p q : Blocks) (numbers : List ℕ) : Type 0 where
+-- two partitions of the same states, and a number for each coarse block
+pub record AreNumbered (p q : Blocks) (numbers : List ℕ) : Type 0 where
   pub states : states_of q ≡ states_of p
   pub in_blocks : (x : ℕ) → x < states_of p → block_at p x < p.count
   pub in_coarse : (x : ℕ) → x < states_of p → block_at q x < q.count

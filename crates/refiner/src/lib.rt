@@ -19,6 +19,7 @@ mod advancing;
 mod grouping;
 mod history;
 mod picking;
+mod progress;
 mod recompute;
 mod refining;
 mod starting;

@@ -7,6 +7,7 @@ ghost use Rattle.refiner.specs.History.{Moment, IsLegal, AreHalves};
 
 use crate::advancing::all_rounds;
 use crate::history::Refined;
+use crate::progress::Progress;
 use crate::starting::{first_values, start_blocks};
 use edge_store::EdgeStore;
 use iface::Iface;
@@ -74,19 +75,24 @@ pub fn refine<I: Iface, L: Ledger>(
 {
     let n = store.states();
     let _edges = store.len();
-    let mut blocks = Partition::one_block(alloc, n)?;
-    let mut coarse = Partition::one_block(alloc, n)?;
     let (values, first_labels) = first_values(iface, alloc, shapes, store, steps)?;
-    let start = start_blocks(iface, alloc, shapes, store, &mut blocks, values.as_slice())?;
-    let mut numbers = vec![in alloc; 0u32; coarse.blocks() as usize]?;
-    let mut waiting = vec![in alloc; 0u32; coarse.blocks() as usize]?;
-    let mut scans = vec![in alloc; 0u32; n as usize]?;
-    let (rounds, later_labels) = all_rounds(
-        iface, alloc, shapes, store, &mut blocks, &mut coarse, &mut numbers, &mut scans,
-        &mut waiting, steps,
+    let mut progress = Progress::begun(alloc, n)?;
+    let start = start_blocks(
+        iface,
+        alloc,
+        shapes,
+        store,
+        &mut progress.blocks,
+        values.as_slice(),
     )?;
-    let block_of = block_list(alloc, &blocks)?;
-    let labels = first_labels + later_labels;
-    let blocks = count_blocks(&blocks);
-    Ok(Refined { block_of, blocks, start, rounds, scans, labels })
+    let (rounds, later_labels) = all_rounds(iface, alloc, shapes, store, &mut progress, steps)?;
+    let Progress { blocks, scans, .. } = progress;
+    Ok(Refined {
+        block_of: block_list(alloc, &blocks)?,
+        blocks: count_blocks(&blocks),
+        start,
+        rounds,
+        scans,
+        labels: first_labels + later_labels,
+    })
 }

@@ -1,62 +1,72 @@
-use Rattle.std.proofs.Common.{◌≡◌, ◌<◌, ◌≤◌, ◌^◌, ◌∙◌, ℕ, List, length, replicate, ap, sym, subst, arith}
+use Rattle.std.proofs.Common.{◌≡◌, ◌<◌, ◌≤◌, ◌^◌, ◌∙◌, ℕ, List, length, ap, sym, refl, subst, arith}
 use Rattle.std.specs.Prelude.{Contains}
 use Rattle.std.proofs.lemmas.List.{length-replicate}
+use Rattle.refinable_partition.specs.Blocks.{states_of}
 use Rattle.sorted_systems.specs.Systems.{system_from}
 use Rattle.refiner.specs.History.{Moment}
-use Rattle.refiner.specs.Making.{moment_of}
+use Rattle.refiner.specs.Ready.{IsBegun, IsReady, moment_at}
 use Rattle.refiner.proofs.Halves.{few_scans}
 use Rattle.refiner.proofs.RoundMade.{all_below}
-use Rattle.refiner.proofs.Starts.{moment_starts, waiting_zeros}
+use Rattle.refiner.proofs.Starts.{moment_starts, ready_begun}
 use Rattle.refiner.proofs.States.{length-system_from}
 use Rattle.refiner.proofs.refining.refine.Goals as goal
 
 pub all_rounds-requires-clause-starts : goal.all_rounds-requires-clause-starts
 all_rounds-requires-clause-starts g c =
+    let n = length-system_from 0 c.args.shapes.now c.args.store.now.1 ∙ c.requires.one_shape in
+    let begun = c.in_ok-progress.progress in
     (c.in_ok-start.start.items,
-     moment_starts (g.I.Iface.node c.args.iface.now) (g.I.Iface.value c.args.iface.now) (system_from 0 c.args.shapes.now c.args.store.now.1)
-     c.in_ok-start.start.items c.start_blocks.new.blocks c.in_ok-coarse.coarse c.in_ok-numbers.numbers.items c.states-n.result c.blocks-4.result
-     c.in_ok-start.ensures.start c.in_ok-coarse.ensures.block
-     (c.states-n.ensures.states ∙ sym c.requires.one_shape ∙ sym (length-system_from 0 c.args.shapes.now c.args.store.now.1))
-     (c.in_ok-numbers.ensures.items_if_clones_equal (λ y e. e)))
+     moment_starts (g.I.Iface.node c.args.iface.now) (g.I.Iface.value c.args.iface.now)
+     (system_from 0 c.args.shapes.now c.args.store.now.1) c.in_ok-start.start.items begun
+     (record begun { blocks = c.start_blocks.new.blocks }) c.in_ok-start.ensures.start
+     (subst (λ k. IsBegun k begun) (c.states-n.ensures.states ∙ sym n) c.in_ok-progress.ensures) refl refl)
 
-pub all_rounds-requires-clause-waiting : goal.all_rounds-requires-clause-waiting
-all_rounds-requires-clause-waiting g c = waiting_zeros c.start_blocks.new.blocks c.in_ok-coarse.coarse c.in_ok-waiting.waiting.items c.states-n.result
-    c.in_ok-coarse.ensures.block (omega (arith, c.states-n.ensures.states, c.in_ok-start.ensures.states, ap length c.in_ok-blocks.ensures.block, length-replicate {A = ℕ} c.states-n.result 0))
-    (λ h. c.in_ok-coarse.ensures.one h)
-    (c.in_ok-waiting.ensures.items_if_clones_equal (λ y e. e) ∙ ap (λ k. replicate k 0) c.blocks-5.ensures.blocks)
+pub all_rounds-requires-clause-ready : goal.all_rounds-requires-clause-ready
+all_rounds-requires-clause-ready g c =
+    let is : IsBegun c.args.store.now.0 c.in_ok-progress.progress =
+          subst (λ k. IsBegun k c.in_ok-progress.progress) c.states-n.ensures.states c.in_ok-progress.ensures in
+    let states : states_of c.start_blocks.new.blocks ≡ c.args.store.now.0 =
+          c.in_ok-start.ensures.states ∙ ap length is.blocks ∙ length-replicate c.args.store.now.0 0 in
+    ready_begun c.args.store.now.0 c.in_ok-progress.progress c.start_blocks.new.blocks is states
+    (λ x hx. c.in_ok-start.ensures.in_range x (omega (arith, hx, states))) c.in_ok-start.ensures.unmarked
 
 pub returns-clause-legal : goal.returns-clause-legal
 returns-clause-legal g c =
-    let n = length-system_from 0 c.args.shapes.now c.args.store.now.1 in
+    let n = length-system_from 0 c.args.shapes.now c.args.store.now.1 ∙ c.requires.one_shape in
+    let begun = c.in_ok-progress.progress in
     let h = c.in_ok-rounds.ensures.history in
-    (moment_of c.start_blocks.new.blocks c.in_ok-coarse.coarse c.in_ok-numbers.numbers.items,
+    let blocks = c.all_rounds.new.progress.blocks in
+    let answer = c.in_ok-block_list.ensures in
+    (moment_at (record begun { blocks = c.start_blocks.new.blocks }),
      h.0,
      record {
-       starts = moment_starts (g.I.Iface.node c.args.iface.now) (g.I.Iface.value c.args.iface.now) (system_from 0 c.args.shapes.now c.args.store.now.1)
-         c.in_ok-start.start.items c.start_blocks.new.blocks c.in_ok-coarse.coarse c.in_ok-numbers.numbers.items c.states-n.result c.blocks-4.result
-         c.in_ok-start.ensures.start c.in_ok-coarse.ensures.block
-         (c.states-n.ensures.states ∙ sym c.requires.one_shape ∙ sym n)
-         (c.in_ok-numbers.ensures.items_if_clones_equal (λ y e. e));
+       starts =
+           moment_starts (g.I.Iface.node c.args.iface.now) (g.I.Iface.value c.args.iface.now)
+           (system_from 0 c.args.shapes.now c.args.store.now.1) c.in_ok-start.start.items begun
+           (record begun { blocks = c.start_blocks.new.blocks }) c.in_ok-start.ensures.start
+           (subst (λ k. IsBegun k begun) (c.states-n.ensures.states ∙ sym n) c.in_ok-progress.ensures) refl refl;
        rounds = h.1.legal;
-       answer = ap (λ (m : Moment). m.blocks) h.1.here ∙ sym c.in_ok-block_of.ensures;
-       numbers = all_below c.in_ok-block_of.block_of.items c.all_rounds.new.blocks.block c.count_blocks-blocks.result c.in_ok-block_of.ensures c.count_blocks-blocks.ensures.in_range;
-       none_empty = λ b hb. subst (λ l. Contains l b) (sym c.in_ok-block_of.ensures) (c.count_blocks-blocks.ensures.none_empty b hb);
-       scans_each = c.in_ok-rounds.ensures.scans_each ∙ sym c.requires.one_shape ∙ sym n;
+       answer = ap (λ (m : Moment). m.blocks) h.1.here ∙ sym answer;
+       numbers = all_below c.in_ok-block_list.field-0.items blocks.block c.count_blocks.result answer c.count_blocks.ensures.in_range;
+       none_empty = λ b hb. subst (λ l. Contains l b) (sym answer) (c.count_blocks.ensures.none_empty b hb);
+       scans_each = c.in_ok-rounds.ensures.one_scan ∙ sym n;
        scans_are = h.1.counted;
      },
      h.1.halves)
 
 pub returns-clause-scans : goal.returns-clause-scans
 returns-clause-scans g c = λ y hy. (
-    let n = length-system_from 0 c.args.shapes.now c.args.store.now.1 in
+    let n = length-system_from 0 c.args.shapes.now c.args.store.now.1 ∙ c.requires.one_shape in
+    let begun = c.in_ok-progress.progress in
     let h = c.in_ok-rounds.ensures.history in
-    let starts = moment_starts (g.I.Iface.node c.args.iface.now) (g.I.Iface.value c.args.iface.now) (system_from 0 c.args.shapes.now c.args.store.now.1)
-          c.in_ok-start.start.items c.start_blocks.new.blocks c.in_ok-coarse.coarse c.in_ok-numbers.numbers.items c.states-n.result c.blocks-4.result
-          c.in_ok-start.ensures.start c.in_ok-coarse.ensures.block
-          (c.states-n.ensures.states ∙ sym c.requires.one_shape ∙ sym n)
-          (c.in_ok-numbers.ensures.items_if_clones_equal (λ z e. e)) in
-    let hz : y < length (system_from 0 c.args.shapes.now c.args.store.now.1) = omega (arith, hy, n, c.requires.one_shape) in
-    let few = few_scans (g.I.Iface.node c.args.iface.now) (g.I.Iface.value c.args.iface.now) (system_from 0 c.args.shapes.now c.args.store.now.1)
-          (moment_of c.start_blocks.new.blocks c.in_ok-coarse.coarse c.in_ok-numbers.numbers.items) h.0 c.in_ok-rounds.rounds.items h.1.legal h.1.halves
-          starts y hz in
-    rw (h.1.counted y hz, ← c.requires.one_shape, ← n) few)
+    let hz : y < length (system_from 0 c.args.shapes.now c.args.store.now.1) = omega (arith, hy, n) in
+    let few = few_scans (g.I.Iface.node c.args.iface.now) (g.I.Iface.value c.args.iface.now)
+          (system_from 0 c.args.shapes.now c.args.store.now.1)
+          (moment_at (record begun { blocks = c.start_blocks.new.blocks })) h.0
+          c.in_ok-rounds.rounds.items h.1.legal h.1.halves
+          (moment_starts (g.I.Iface.node c.args.iface.now) (g.I.Iface.value c.args.iface.now)
+          (system_from 0 c.args.shapes.now c.args.store.now.1) c.in_ok-start.start.items begun
+          (record begun { blocks = c.start_blocks.new.blocks }) c.in_ok-start.ensures.start
+          (subst (λ k. IsBegun k begun) (c.states-n.ensures.states ∙ sym n) c.in_ok-progress.ensures) refl refl)
+          y hz in
+    rw (h.1.counted y hz, ← n) few)
