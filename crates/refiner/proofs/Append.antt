@@ -31,8 +31,8 @@ module _ {Shape Label : Type 0} (node : Shape → ℕ) (value : Shape → List L
 
   -- one round more
   pub leads_on : (first : Moment) (later : List Moment) (rounds : List Round) (now after : Moment) (r : Round) (scans scans2 : List ℕ) → LeadsTo node value system first later rounds now scans → IsRound node value system (length rounds) now after r → 2 * size_of now.blocks r.splitter ≤ size_of now.coarse r.coarse
-    → ((y : ℕ) → y < length system → get_or scans2 y 0 ≡ get_or scans y 0 + cond (class_in now.blocks y == r.splitter) 1 0)
-    → LeadsTo node value system first (later ++ after ∷ []) (rounds ++ r ∷ []) after scans2
+      → ((y : ℕ) → y < length system → get_or scans2 y 0 ≡ get_or scans y 0 + cond (class_in now.blocks y == r.splitter) 1 0)
+      → LeadsTo node value system first (later ++ after ∷ []) (rounds ++ r ∷ []) after scans2
   leads_on first later rounds now after r scans scans2 so_far round half more = record {
     legal = rounds_push 0 first later rounds after r so_far.legal (subst (λ (m : Moment). IsRound node value system (0 + length rounds) m after r) (sym so_far.here) (subst (λ n. IsRound node value system n now after r) (sym (zero-add (length rounds))) round));
     here = last_moment-push first later after;

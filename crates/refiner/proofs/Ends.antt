@@ -49,11 +49,11 @@ module _ {Shape Label : Type 0} (node : Shape → ℕ) (kin : Shape → Shape �
         let ga : IsGood node kin fits value agree laws (length system) a = good x a ax in
         let gb : IsGood node kin fits value agree laws (length system) b = good y b by_ in
         let values : value a.shape a.labels (each 2 a.labels) ≡ value b.shape b.labels (each 2 b.labels) =
-              ap (value a.shape a.labels) (sym (two_each a.targets a.labels ga.one_each)) ∙ value_a ∙ ap (λ (p : Start). p.three) one ∙ sym value_b ∙ ap (value b.shape b.labels) (two_each b.targets b.labels gb.one_each) in
+        ap (value a.shape a.labels) (sym (two_each a.targets a.labels ga.one_each)) ∙ value_a ∙ ap (λ (p : Start). p.three) one ∙ sym value_b ∙ ap (value b.shape b.labels) (two_each b.targets b.labels gb.one_each) in
         let c : ℕ → ℕ = class_in m.coarse in
         let back : (ts : List ℕ) → Below (length system) ts → map (λ _. 0) (map c ts) ≡ map c ts = λ ts below. map-map (λ _. 0) c ts ∙ map_same (length system) (λ _. 0) c (λ t h. sym (zero_coarse t)) ts below in
         agree_along node kin fits value agree laws a b _ _ _ _ (back a.targets ga.in_range) (back b.targets gb.in_range)
-          (laws.start (seen c a) (seen c b) 0 (fitting node kin fits value agree laws a c ga) (fitting node kin fits value agree laws b c gb) (same_kind x y a b ax by_ nodes) nodes values)
+        (laws.start (seen c a) (seen c b) 0 (fitting node kin fits value agree laws a c ga) (fitting node kin fits value agree laws b c gb) (same_kind x y a b ax by_ nodes) nodes values)
 
     start_coarsest : (s : List ℕ) → IsStable agree system s → Refines system s m.blocks
     start_coarsest s stable x y hx hy same =
@@ -69,10 +69,12 @@ module _ {Shape Label : Type 0} (node : Shape → ℕ) (kin : Shape → Shape �
         let nodes : px.1.node ≡ py.1.node = sym (px.4.2 a ax) ∙ laws.one_node (seen (class_in s) a) (seen (class_in s) b) (fitting node kin fits value agree laws a (class_in s) ga) (fitting node kin fits value agree laws b (class_in s) gb) agreed ∙ py.4.2 b by_ in
         let threes : px.1.three ≡ py.1.three = sym px.4.1.2 ∙ stable_value node kin fits value agree laws (length system) s (sym stable.one_each) (λ _. 2) (λ k. omega arith) (λ t u ht hu e. refl) a b ga gb agreed ∙ py.4.1.2 in
         elim (pair_either (λ (p : Start). λ (q : Start). (p.node ≡ q.node) → (p.three ≡ q.three) → ⊥) start starts.pairs_apart px.0 py.0 px.1 py.1 px.2 py.2 px.3 py.3) [
-          inl apart ↦ absurd (apart nodes threes)
-        | inr rest ↦ elim rest [
-            inl apart ↦ absurd (apart (sym nodes) (sym threes))
-          | inr one ↦ px.4.0 ∙ ap (λ (p : Start). p.block) one ∙ sym py.4.0 ] ]
+          | inl apart ↦ absurd (apart nodes threes)
+          | inr rest ↦ elim rest [
+            | inl apart ↦ absurd (apart (sym nodes) (sym threes))
+            | inr one ↦ px.4.0 ∙ ap (λ (p : Start). p.block) one ∙ sym py.4.0
+          ]
+        ]
 
     pub start_holds : Holds node kin fits value agree laws system good 0 m
     start_holds = record {
@@ -98,13 +100,13 @@ module _ {Shape Label : Type 0} (node : Shape → ℕ) (kin : Shape → Shape �
     stable = record {
       one_each = held.blocks_each;
       agrees = λ x y a b ax by_ same. (
-        let c : ℕ → ℕ = class_in m.coarse in
-        let f : ℕ → ℕ = λ (k : ℕ). class_in m.blocks (index_of m.coarse k) in
-        let ga : IsGood node kin fits value agree laws (length system) a = good x a ax in
-        let gb : IsGood node kin fits value agree laws (length system) b = good y b by_ in
-        let back : (ts : List ℕ) → Below (length system) ts → map f (map c ts) ≡ map (class_in m.blocks) ts =
-              λ ts below. map-map f c ts ∙ map_same (length system) (λ t. f (c t)) (class_in m.blocks) (λ t h. (let found = index_of-get m.coarse t (subst (λ n. t < n) (sym held.coarse_each) h) in single (index_of m.coarse (c t)) t (subst (λ n. index_of m.coarse (c t) < n) held.coarse_each found.0) h found.1)) ts below in
-        agree_along node kin fits value agree laws a b _ _ _ _ (back a.targets ga.in_range) (back b.targets gb.in_range)
+          let c : ℕ → ℕ = class_in m.coarse in
+          let f : ℕ → ℕ = λ (k : ℕ). class_in m.blocks (index_of m.coarse k) in
+          let ga : IsGood node kin fits value agree laws (length system) a = good x a ax in
+          let gb : IsGood node kin fits value agree laws (length system) b = good y b by_ in
+          let back : (ts : List ℕ) → Below (length system) ts → map f (map c ts) ≡ map (class_in m.blocks) ts =
+          λ ts below. map-map f c ts ∙ map_same (length system) (λ t. f (c t)) (class_in m.blocks) (λ t h. (let found = index_of-get m.coarse t (subst (λ n. t < n) (sym held.coarse_each) h) in single (index_of m.coarse (c t)) t (subst (λ n. index_of m.coarse (c t) < n) held.coarse_each found.0) h found.1)) ts below in
+          agree_along node kin fits value agree laws a b _ _ _ _ (back a.targets ga.in_range) (back b.targets gb.in_range)
           (laws.merges (seen c a) (seen c b) f (fitting node kin fits value agree laws a c ga) (fitting node kin fits value agree laws b c gb) (held.agrees x y a b ax by_ same)));
     };
     greatest = held.coarsest;

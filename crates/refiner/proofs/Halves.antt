@@ -39,8 +39,9 @@ size_within (x ∷ xs) [] a b len within = absurd (omega arith)
 size_within (x ∷ xs) (y ∷ ys) a b len within =
     let rest = size_within xs ys a b (omega arith) (λ k h e. within (suc k) (omega arith) e) in
     elim (cases_eq x a) [
-      inl same ↦ omega (arith, size_yes x a xs same, size_yes y b ys (within 0 (omega arith) same), rest)
-    | inr other ↦ omega (arith, size_no x a xs other, size_more y b ys, rest) ]
+      | inl same ↦ omega (arith, size_yes x a xs same, size_yes y b ys (within 0 (omega arith) same), rest)
+      | inr other ↦ omega (arith, size_no x a xs other, size_more y b ys, rest)
+    ]
 
 -- a state's own block has a member
 pub size_some : (xs : List ℕ) (x : ℕ) → x < length xs → 1 ≤ size_of xs (get_or xs x 0)
@@ -55,9 +56,9 @@ pub half_made :
     2 * size_of p.block splitter ≤ size_of (map (λ c. get_or numbers c 0) q.block) coarse
 half_made p q numbers x splitter coarse half s c =
     let within : size_of q.block (block_at q x) ≤ size_of (map (λ k. get_or numbers k 0) q.block) coarse =
-          size_within q.block (map (λ k. get_or numbers k 0) q.block) (block_at q x) coarse
-          (sym (length-map (λ k. get_or numbers k 0) q.block))
-          (λ k h e. get_or-map (λ b. get_or numbers b 0) q.block k 0 0 h ∙ ap (λ b. get_or numbers b 0) e ∙ sym c) in
+    size_within q.block (map (λ k. get_or numbers k 0) q.block) (block_at q x) coarse
+    (sym (length-map (λ k. get_or numbers k 0) q.block))
+    (λ k h e. get_or-map (λ b. get_or numbers b 0) q.block k 0 0 h ∙ ap (λ b. get_or numbers b 0) e ∙ sym c) in
     omega (arith, half, within, ap (size_of p.block) s)
 
 -- what a state's new coarse number tells
@@ -104,16 +105,17 @@ module _
         (t : ℕ) → t < length system →
         class_in after.coarse t
         ≡ cond (class_in before.blocks t == r.splitter) r.inner
-          (cond (class_in before.coarse t == r.coarse) r.outer (class_in before.coarse t))
+        (cond (class_in before.coarse t == r.coarse) r.outer (class_in before.coarse t))
     next_is t h =
         ap (λ cs. class_in cs t) round.coarse_is
         ∙ coarse_after_at before.blocks before.coarse r t (at.1 ∙ sym at.0) (omega (arith, at.0))
 
     next_at : At (number + 1) after
-    next_at =
-        (round.one_each,
-         ap length round.coarse_is ∙ length-coarse_after before.blocks before.coarse r (at.1 ∙ sym at.0) ∙ at.0,
-         λ t h. rw (next_is t h) (next_small _ _ r.splitter r.coarse r.inner r.outer number round.inner_is round.outer_is (at.2 t h)))
+    next_at = (
+      round.one_each,
+      ap length round.coarse_is ∙ length-coarse_after before.blocks before.coarse r (at.1 ∙ sym at.0) ∙ at.0,
+      λ t h. rw (next_is t h) (next_small _ _ r.splitter r.coarse r.inner r.outer number round.inner_is round.outer_is (at.2 t h)),
+    )
 
     sized :
         (xs : List ℕ) (y a b : ℕ) → length xs ≡ length system →
@@ -130,30 +132,32 @@ module _
         * size_of after.coarse (class_in after.coarse y)
         ≤ size_of before.coarse (class_in before.coarse y)
     shrinks half y hy = elim (cases_eq (class_in before.blocks y) r.splitter) [
-        inl in_ ↦ (
+      | inl in_ ↦ (
           let test = eq-eqb _ _ in_ in
           let now : class_in after.coarse y ≡ r.inner = next_is y hy ∙ ap (λ t. cond t r.inner (cond (class_in before.coarse y == r.coarse) r.outer (class_in before.coarse y))) test in
           let small : size_of after.coarse r.inner ≤ size_of before.blocks r.splitter =
-                sized before.blocks y r.inner r.splitter at.0
-                (λ t h e. to_inner _ _ r.splitter r.coarse r.inner r.outer number round.inner_is round.outer_is (at.2 t h) (sym (next_is t h) ∙ e)) in
+          sized before.blocks y r.inner r.splitter at.0
+          (λ t h e. to_inner _ _ r.splitter r.coarse r.inner r.outer number round.inner_is round.outer_is (at.2 t h) (sym (next_is t h) ∙ e)) in
           rw (test, now, round.splitter_within y hy in_) (omega (arith, small, half)))
       | inr out ↦ (
           let test = ne_eqb _ _ out in
           let now : class_in after.coarse y ≡ cond (class_in before.coarse y == r.coarse) r.outer (class_in before.coarse y) =
-                next_is y hy ∙ ap (λ t. cond t r.inner (cond (class_in before.coarse y == r.coarse) r.outer (class_in before.coarse y))) test in
+          next_is y hy ∙ ap (λ t. cond t r.inner (cond (class_in before.coarse y == r.coarse) r.outer (class_in before.coarse y))) test in
           elim (cases_eq (class_in before.coarse y) r.coarse) [
-            inl left ↦ (
-              let there : class_in after.coarse y ≡ r.outer = now ∙ ap (λ t. cond t r.outer (class_in before.coarse y)) (eq-eqb _ _ left) in
-              let small : size_of after.coarse r.outer ≤ size_of before.coarse r.coarse =
-                    sized before.coarse y r.outer r.coarse at.1
-                    (λ t h e. to_outer _ _ r.splitter r.coarse r.inner r.outer number round.inner_is round.outer_is (at.2 t h) (sym (next_is t h) ∙ e)) in
-              rw (test, there, left) (omega (arith, small)))
-          | inr far ↦ (
-              let there : class_in after.coarse y ≡ class_in before.coarse y = now ∙ ap (λ t. cond t r.outer (class_in before.coarse y)) (ne_eqb _ _ far) in
-              let small : size_of after.coarse (class_in before.coarse y) ≤ size_of before.coarse (class_in before.coarse y) =
-                    sized before.coarse y (class_in before.coarse y) (class_in before.coarse y) at.1
-                    (λ t h e. to_old _ _ r.splitter r.coarse r.inner r.outer number (class_in before.coarse y) round.inner_is round.outer_is (at.2 t h) (at.2 y hy) (sym (next_is t h) ∙ e)) in
-              rw (test, there) (omega (arith, small))) ]) ]
+            | inl left ↦ (
+                let there : class_in after.coarse y ≡ r.outer = now ∙ ap (λ t. cond t r.outer (class_in before.coarse y)) (eq-eqb _ _ left) in
+                let small : size_of after.coarse r.outer ≤ size_of before.coarse r.coarse =
+                sized before.coarse y r.outer r.coarse at.1
+                (λ t h e. to_outer _ _ r.splitter r.coarse r.inner r.outer number round.inner_is round.outer_is (at.2 t h) (sym (next_is t h) ∙ e)) in
+                rw (test, there, left) (omega (arith, small)))
+            | inr far ↦ (
+                let there : class_in after.coarse y ≡ class_in before.coarse y = now ∙ ap (λ t. cond t r.outer (class_in before.coarse y)) (ne_eqb _ _ far) in
+                let small : size_of after.coarse (class_in before.coarse y) ≤ size_of before.coarse (class_in before.coarse y) =
+                sized before.coarse y (class_in before.coarse y) (class_in before.coarse y) at.1
+                (λ t h e. to_old _ _ r.splitter r.coarse r.inner r.outer number (class_in before.coarse y) round.inner_is round.outer_is (at.2 t h) (at.2 y hy) (sym (next_is t h) ∙ e)) in
+                rw (test, there) (omega (arith, small)))
+          ])
+    ]
 
   -- a state's coarse block shrinks by half for each scan
   pub all_shrink :
@@ -162,18 +166,19 @@ module _
       At number m → (y : ℕ) → y < length system →
       (length (last_moment m later).coarse ≡ length system)
       × (2 ^ scans_of m later rounds y
-        * size_of (last_moment m later).coarse (class_in (last_moment m later).coarse y)
-        ≤ size_of m.coarse (class_in m.coarse y))
+      * size_of (last_moment m later).coarse (class_in (last_moment m later).coarse y)
+      ≤ size_of m.coarse (class_in m.coarse y))
   all_shrink number m [] [] legal halves at y hy = (at.1, omega arith)
   all_shrink number m [] (r ∷ rounds) legal halves at y hy = absurd legal
   all_shrink number m (after ∷ later) [] legal halves at y hy = absurd legal
   all_shrink number m (after ∷ later) (r ∷ rounds) legal halves at y hy =
-      let rest = all_shrink (number + 1) after later rounds legal.1 halves.1 (next_at number m after r legal.0 at) y hy in
-      (rest.0,
-       doubled (class_in m.blocks y == r.splitter) (scans_of after later rounds y)
-       (size_of (last_moment after later).coarse (class_in (last_moment after later).coarse y))
-       (size_of after.coarse (class_in after.coarse y)) (size_of m.coarse (class_in m.coarse y))
-       rest.1 (shrinks number m after r legal.0 at halves.0 y hy))
+      let rest = all_shrink (number + 1) after later rounds legal.1 halves.1 (next_at number m after r legal.0 at) y hy in (
+        rest.0,
+        doubled (class_in m.blocks y == r.splitter) (scans_of after later rounds y)
+            (size_of (last_moment after later).coarse (class_in (last_moment after later).coarse y))
+            (size_of after.coarse (class_in after.coarse y)) (size_of m.coarse (class_in m.coarse y))
+            rest.1 (shrinks number m after r legal.0 at halves.0 y hy),
+      )
 
   -- so no state is scanned often
   pub few_scans :
@@ -183,9 +188,9 @@ module _
       (y : ℕ) → y < length system → 2 ^ scans_of first later rounds y ≤ length system
   few_scans first later rounds legal halves starts y hy =
       let coarse : length first.coarse ≡ length system =
-            ap length starts.one_coarse ∙ length-map (λ _. 0) system in
+      ap length starts.one_coarse ∙ length-map (λ _. 0) system in
       let none : (t : ℕ) → t < length system → class_in first.coarse t ≤ 2 * 0 =
-            λ t h. omega (arith, ap (λ cs. class_in cs t) starts.one_coarse, zero_at system t) in
+      λ t h. omega (arith, ap (λ cs. class_in cs t) starts.one_coarse, zero_at system t) in
       let found = all_shrink 0 first later rounds legal halves (starts.one_each, coarse, none) y hy in
       let last : List ℕ = (last_moment first later).coarse in
       let some : 1 ≤ size_of last (class_in last y) = size_some last y (omega (arith, found.0)) in

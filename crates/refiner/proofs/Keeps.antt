@@ -37,8 +37,9 @@ index_of-get (x ∷ xs) (suc t) h =
     let k : ℕ = get_or xs t 0 in
     let tail : (index_of xs k < length xs) × (get_or xs (index_of xs k) 0 ≡ k) = index_of-get xs t (omega arith) in
     elim (eqb_tells x k) [
-      inl same ↦ rw same.0 (omega arith, same.1)
-    | inr other ↦ rw other.0 (omega (arith, tail.0), tail.1) ]
+      | inl same ↦ rw same.0 (omega arith, same.1)
+      | inr other ↦ rw other.0 (omega (arith, tail.0), tail.1)
+    ]
 
 -- the coarse class after a round
 abbrev pub coarse_next : (ℕ → ℕ) → (ℕ → ℕ) → ℕ → ℕ → ℕ → ℕ → ℕ → ℕ
@@ -98,19 +99,19 @@ module _ {Shape Label : Type 0} (node : Shape → ℕ) (kin : Shape → Shape �
       let merge : ℕ → ℕ = λ (k : ℕ). cond (k == split) outer k in
       let merged : agree (under merge (seen coarse a)) (under merge (seen coarse b)) = laws.merges (seen coarse a) (seen coarse b) merge (fitting a coarse ga) (fitting b coarse gb) same in
       let classes : (ts : List ℕ) → Below n ts → map merge (map coarse ts) ≡ map (joined outer inner) (map next ts) =
-            λ ts below. map-map merge coarse ts ∙ map_same n (λ t. merge (coarse t)) (λ t. joined outer inner (next t)) (λ t h. sym (joined_next (block t) (coarse t) splitter split inner outer apart (within t h) (fresh_inner t h) (fresh_outer t h))) ts below ∙ sym (map-map (joined outer inner) next ts) in
+      λ ts below. map-map merge coarse ts ∙ map_same n (λ t. merge (coarse t)) (λ t. joined outer inner (next t)) (λ t h. sym (joined_next (block t) (coarse t) splitter split inner outer apart (within t h) (fresh_inner t h) (fresh_outer t h))) ts below ∙ sym (map-map (joined outer inner) next ts) in
       let trits : (ts : List ℕ) → Below n ts → map (three_way outer inner) (map next ts) ≡ map trit ts =
-            λ ts below. map-map (three_way outer inner) next ts ∙ map_same n (λ t. three_way outer inner (next t)) trit (λ t h. three_next (block t) (coarse t) splitter split inner outer apart (fresh_inner t h) (fresh_outer t h)) ts below in
+      λ ts below. map-map (three_way outer inner) next ts ∙ map_same n (λ t. three_way outer inner (next t)) trit (λ t h. three_next (block t) (coarse t) splitter split inner outer apart (fresh_inner t h) (fresh_outer t h)) ts below in
       laws.splits (seen next a) (seen next b) outer inner (λ e. apart (sym e)) (fitting a next ga) (fitting b next gb)
-        (agree_along a b _ _ _ _ (classes a.targets ga.in_range) (classes b.targets gb.in_range) merged)
-        (ap (value a.shape a.labels) (trits a.targets ga.in_range) ∙ same_value ∙ ap (value b.shape b.labels) (sym (trits b.targets gb.in_range)))
+      (agree_along a b _ _ _ _ (classes a.targets ga.in_range) (classes b.targets gb.in_range) merged)
+      (ap (value a.shape a.labels) (trits a.targets ga.in_range) ∙ same_value ∙ ap (value b.shape b.labels) (sym (trits b.targets gb.in_range)))
 
   -- two states of one stable class have one value, whatever trits the classes have
   pub stable_value : (n : ℕ) (s : List ℕ) → n ≡ length s → (trit : ℕ → ℕ) → IsNumbering trit → ((t u : ℕ) → t < n → u < n → class_in s t ≡ class_in s u → trit t ≡ trit u) → (a b : Sorted Shape Label) → IsGood n a → IsGood n b → agree (seen (class_in s) a) (seen (class_in s) b) → value a.shape a.labels (map trit a.targets) ≡ value b.shape b.labels (map trit b.targets)
   stable_value n s size trit numbering respects a b ga gb same =
       let h : ℕ → ℕ = λ (k : ℕ). trit (index_of s k) in
       let back : (ts : List ℕ) → Below n ts → map h (map (class_in s) ts) ≡ map trit ts =
-            λ ts below. map-map h (class_in s) ts ∙ map_same n (λ t. h (class_in s t)) trit (λ t lt. let found = index_of-get s t (subst (λ m. t < m) size lt) in respects (index_of s (class_in s t)) t (subst (λ m. index_of s (class_in s t) < m) (sym size) found.0) lt found.1) ts below in
+      λ ts below. map-map h (class_in s) ts ∙ map_same n (λ t. h (class_in s t)) trit (λ t lt. let found = index_of-get s t (subst (λ m. t < m) size lt) in respects (index_of s (class_in s t)) t (subst (λ m. index_of s (class_in s t) < m) (sym size) found.0) lt found.1) ts below in
       ap (value a.shape a.labels) (sym (back a.targets ga.in_range))
       ∙ laws.one_value (seen (class_in s) a) (seen (class_in s) b) h (λ k. numbering (index_of s k)) (fitting a (class_in s) ga) (fitting b (class_in s) gb) same
       ∙ ap (value b.shape b.labels) (back b.targets gb.in_range)

@@ -11,16 +11,18 @@ pub set_apart : (xs : List ℕ) (c v : ℕ) → AllPairs (λ a b. a ≢ b) xs �
 set_apart xs c v apart below hc i j d hij hj e =
     let hj2 : j < length xs = omega (arith, length-set xs c v) in
     elim (cases_eq i c) [
-      inl ic ↦ (
-        let ei : get_or (set xs c v) i d ≡ v = subst (λ n. get_or (set xs c v) n d ≡ v) (sym ic) (get_or-set_same xs c v d hc) in
-        let ej : get_or (set xs c v) j d ≡ get_or xs j d = get_or-set_other xs c j v d (λ f. omega arith) in
-        omega (arith, below j d hj2, ei, ej, e))
-    | inr ni ↦ elim (cases_eq j c) [
-        inl jc ↦ (
-          let ej : get_or (set xs c v) j d ≡ v = subst (λ n. get_or (set xs c v) n d ≡ v) (sym jc) (get_or-set_same xs c v d hc) in
-          let ei : get_or (set xs c v) i d ≡ get_or xs i d = get_or-set_other xs c i v d ni in
-          omega (arith, below i d (omega arith), ei, ej, e))
-      | inr nj ↦ apart i j d hij hj2 (sym (get_or-set_other xs c i v d ni) ∙ e ∙ get_or-set_other xs c j v d nj) ] ]
+      | inl ic ↦ (
+          let ei : get_or (set xs c v) i d ≡ v = subst (λ n. get_or (set xs c v) n d ≡ v) (sym ic) (get_or-set_same xs c v d hc) in
+          let ej : get_or (set xs c v) j d ≡ get_or xs j d = get_or-set_other xs c j v d (λ f. omega arith) in
+          omega (arith, below j d hj2, ei, ej, e))
+      | inr ni ↦ elim (cases_eq j c) [
+        | inl jc ↦ (
+            let ej : get_or (set xs c v) j d ≡ v = subst (λ n. get_or (set xs c v) n d ≡ v) (sym jc) (get_or-set_same xs c v d hc) in
+            let ei : get_or (set xs c v) i d ≡ get_or xs i d = get_or-set_other xs c i v d ni in
+            omega (arith, below i d (omega arith), ei, ej, e))
+        | inr nj ↦ apart i j d hij hj2 (sym (get_or-set_other xs c i v d ni) ∙ e ∙ get_or-set_other xs c j v d nj)
+      ]
+    ]
 
 -- the numbers after a round
 pub numbers_apart_next : (xs : List ℕ) (c number : ℕ) → AllPairs (λ a b. a ≢ b) xs → All (λ k. k ≤ 2 * number) xs → c < length xs → AllPairs (λ a b. a ≢ b) (set xs c (2 * number + 2) ++ (2 * number + 1) ∷ [])
@@ -39,7 +41,7 @@ scans_small_next xs ys test number len more small k d h =
     let old : get_or xs k 0 ≤ number = small k 0 hx in
     let new : get_or ys k d ≤ get_or xs k 0 + 1 = rw (get_or_default ys k d 0 h, more k hx) (one_bit (get_or xs k 0) (test k)) in
     omega (arith, old, new)
-    where
+  where
     one_bit : (n : ℕ) (t : Bool) → n + cond t 1 0 ≤ n + 1
     one_bit n true = omega arith
     one_bit n false = omega arith

@@ -72,9 +72,10 @@ module _ {Shape Label : Type 0} (node : Shape → ℕ) (kin : Shape → Shape �
         let goes : Any (λ (p : Part). (later x ≡ p.block) × Val x p.three) s.parts.items = goes_to s split x hx (sym parent) in
         let part_is : goes.1.block ≡ old y = sym goes.4.0 ∙ same ∙ round.others_stay y hy none in
         elim (eqb_tells goes.1.block s.parent) [
-          inl keeps ↦ all_at (λ (t : Split). t.parent ≢ old y) r.splits.items k s none hk ek (sym keeps.1 ∙ part_is)
-        | inr other ↦ all_at (λ (p : Part). p.block ≢ s.parent → ¬ Contains before.blocks p.block) s.parts.items goes.0 goes.1 split.others_new goes.2 goes.3 other.1
-            (subst (λ b. Contains before.blocks b) (sym part_is) (contains before.blocks y hyb)) ]
+          | inl keeps ↦ all_at (λ (t : Split). t.parent ≢ old y) r.splits.items k s none hk ek (sym keeps.1 ∙ part_is)
+          | inr other ↦ all_at (λ (p : Part). p.block ≢ s.parent → ¬ Contains before.blocks p.block) s.parts.items goes.0 goes.1 split.others_new goes.2 goes.3 other.1
+              (subst (λ b. Contains before.blocks b) (sym part_is) (contains before.blocks y hyb))
+        ]
 
     -- two members of split blocks that meet came from one block
     met : (k l : ℕ) (s t : Split) (x y : ℕ) → k < length r.splits.items → l < length r.splits.items → get_or r.splits.items k s ≡ s → get_or r.splits.items l t ≡ t → s.parent ≡ old x → t.parent ≡ old y → x < length system → y < length system → later x ≡ later y → s ≡ t
@@ -83,46 +84,53 @@ module _ {Shape Label : Type 0} (node : Shape → ℕ) (kin : Shape → Shape �
         let comes : Any (λ (p : Part). (later y ≡ p.block) × Val y p.three) t.parts.items = goes_to t (split_is l t hl el) y hy (sym py) in
         let meet : goes.1.block ≡ comes.1.block = sym goes.4.0 ∙ same ∙ comes.4.0 in
         elim (pair_either (λ (u : Split). λ (w : Split). All (λ (p : Part). All (λ (q : Part). p.block ≢ q.block) w.parts.items) u.parts.items) r.splits.items round.news_apart k l s t hk hl ek el) [
-          inl apart ↦ absurd (all_at (λ (q : Part). goes.1.block ≢ q.block) t.parts.items comes.0 comes.1 (all_at (λ (p : Part). All (λ (q : Part). p.block ≢ q.block) t.parts.items) s.parts.items goes.0 goes.1 apart goes.2 goes.3) comes.2 comes.3 meet)
-        | inr rest ↦ elim rest [
-            inl apart ↦ absurd (all_at (λ (q : Part). comes.1.block ≢ q.block) s.parts.items goes.0 goes.1 (all_at (λ (p : Part). All (λ (q : Part). p.block ≢ q.block) s.parts.items) t.parts.items comes.0 comes.1 apart comes.2 comes.3) goes.2 goes.3 (sym meet))
-          | inr equal ↦ equal ] ]
+          | inl apart ↦ absurd (all_at (λ (q : Part). goes.1.block ≢ q.block) t.parts.items comes.0 comes.1 (all_at (λ (p : Part). All (λ (q : Part). p.block ≢ q.block) t.parts.items) s.parts.items goes.0 goes.1 apart goes.2 goes.3) comes.2 comes.3 meet)
+          | inr rest ↦ elim rest [
+            | inl apart ↦ absurd (all_at (λ (q : Part). comes.1.block ≢ q.block) s.parts.items goes.0 goes.1 (all_at (λ (p : Part). All (λ (q : Part). p.block ≢ q.block) s.parts.items) t.parts.items comes.0 comes.1 apart comes.2 comes.3) goes.2 goes.3 (sym meet))
+            | inr equal ↦ equal
+          ]
+        ]
 
     -- what is in one block after the round was in one block before, with one value
     pub block_before : length before.blocks ≡ length system → (x y : ℕ) (v w : Three) → x < length system → y < length system → Val x v → Val y w → later x ≡ later y → (old x ≡ old y) × (v ≡ w)
     block_before each x y v w hx hy vx wy same = elim (find_number (λ (s : Split). s.parent) r.splits.items (old x)) [
-      inl found ↦ elim (find_number (λ (s : Split). s.parent) r.splits.items (old y)) [
-        inl also ↦ (
-          let equal : found.1 ≡ also.1 = met found.0 also.0 found.1 also.1 x y found.2 also.2 found.3 also.3 found.4 also.4 hx hy same in
-          let olds : old x ≡ old y = sym found.4 ∙ ap (λ (s : Split). s.parent) equal ∙ also.4 in
-          let split : IsSplit node value system before after r found.1 = split_is found.0 found.1 found.2 found.3 in
-          let goes : Any (λ (p : Part). (later x ≡ p.block) × Val x p.three) found.1.parts.items = goes_to found.1 split x hx (sym found.4) in
-          let comes : Any (λ (p : Part). (later y ≡ p.block) × Val y p.three) found.1.parts.items = goes_to found.1 split y hy (sym olds ∙ sym found.4) in
-          let parts : goes.1 ≡ comes.1 = apart_same (λ (p : Part). p.block) found.1.parts.items split.numbers_apart goes.0 comes.0 goes.1 comes.1 goes.2 comes.2 goes.3 comes.3 (sym goes.4.0 ∙ same ∙ comes.4.0) in
-          (olds, same_value (round_trit before r) x v goes.1.three vx goes.4.1 ∙ ap (λ (p : Part). p.three) parts ∙ same_value (round_trit before r) y comes.1.three w comes.4.1 wy))
-      | inr none ↦ absurd (clash found.0 found.1 x y found.2 found.3 found.4 hx hy (subst (λ n. y < n) (sym each) hy) none same) ]
+      | inl found ↦ elim (find_number (λ (s : Split). s.parent) r.splits.items (old y)) [
+        | inl also ↦ (
+            let equal : found.1 ≡ also.1 = met found.0 also.0 found.1 also.1 x y found.2 also.2 found.3 also.3 found.4 also.4 hx hy same in
+            let olds : old x ≡ old y = sym found.4 ∙ ap (λ (s : Split). s.parent) equal ∙ also.4 in
+            let split : IsSplit node value system before after r found.1 = split_is found.0 found.1 found.2 found.3 in
+            let goes : Any (λ (p : Part). (later x ≡ p.block) × Val x p.three) found.1.parts.items = goes_to found.1 split x hx (sym found.4) in
+            let comes : Any (λ (p : Part). (later y ≡ p.block) × Val y p.three) found.1.parts.items = goes_to found.1 split y hy (sym olds ∙ sym found.4) in
+            let parts : goes.1 ≡ comes.1 = apart_same (λ (p : Part). p.block) found.1.parts.items split.numbers_apart goes.0 comes.0 goes.1 comes.1 goes.2 comes.2 goes.3 comes.3 (sym goes.4.0 ∙ same ∙ comes.4.0) in
+            (olds, same_value (round_trit before r) x v goes.1.three vx goes.4.1 ∙ ap (λ (p : Part). p.three) parts ∙ same_value (round_trit before r) y comes.1.three w comes.4.1 wy))
+        | inr none ↦ absurd (clash found.0 found.1 x y found.2 found.3 found.4 hx hy (subst (λ n. y < n) (sym each) hy) none same)
+      ]
       | inr stays ↦ elim (find_number (λ (s : Split). s.parent) r.splits.items (old y)) [
-        inl also ↦ absurd (clash also.0 also.1 y x also.2 also.3 also.4 hy hx (subst (λ n. x < n) (sym each) hx) stays (sym same))
-      | inr none ↦ (
-          let olds : old x ≡ old y = sym (round.others_stay x hx stays) ∙ same ∙ round.others_stay y hy none in
-          (olds, round.others_alike x y v w hx hy olds stays vx wy)) ] ]
+        | inl also ↦ absurd (clash also.0 also.1 y x also.2 also.3 also.4 hy hx (subst (λ n. x < n) (sym each) hx) stays (sym same))
+        | inr none ↦ (
+            let olds : old x ≡ old y = sym (round.others_stay x hx stays) ∙ same ∙ round.others_stay y hy none in
+            (olds, round.others_alike x y v w hx hy olds stays vx wy))
+      ]
+    ]
 
     -- what was in one block with one value stays in one
     pub block_after : (x y : ℕ) (v : Three) → x < length system → y < length system → Val x v → Val y v → old x ≡ old y → later x ≡ later y
     block_after x y v hx hy vx vy same = elim (find_number (λ (s : Split). s.parent) r.splits.items (old x)) [
-      inl found ↦ (
-        let split : IsSplit node value system before after r found.1 = split_is found.0 found.1 found.2 found.3 in
-        let goes : Any (λ (p : Part). (later x ≡ p.block) × Val x p.three) found.1.parts.items = goes_to found.1 split x hx (sym found.4) in
-        let comes : Any (λ (p : Part). (later y ≡ p.block) × Val y p.three) found.1.parts.items = goes_to found.1 split y hy (sym same ∙ sym found.4) in
-        let parts : goes.1 ≡ comes.1 = apart_same (λ (p : Part). p.three) found.1.parts.items split.values_apart goes.0 comes.0 goes.1 comes.1 goes.2 comes.2 goes.3 comes.3 (same_value (round_trit before r) x goes.1.three v goes.4.1 vx ∙ same_value (round_trit before r) y v comes.1.three vy comes.4.1) in
-        goes.4.0 ∙ ap (λ (p : Part). p.block) parts ∙ sym comes.4.0)
-      | inr stays ↦ round.others_stay x hx stays ∙ same ∙ sym (round.others_stay y hy (subst (λ n. All (λ (s : Split). s.parent ≢ n) r.splits.items) same stays)) ]
+      | inl found ↦ (
+          let split : IsSplit node value system before after r found.1 = split_is found.0 found.1 found.2 found.3 in
+          let goes : Any (λ (p : Part). (later x ≡ p.block) × Val x p.three) found.1.parts.items = goes_to found.1 split x hx (sym found.4) in
+          let comes : Any (λ (p : Part). (later y ≡ p.block) × Val y p.three) found.1.parts.items = goes_to found.1 split y hy (sym same ∙ sym found.4) in
+          let parts : goes.1 ≡ comes.1 = apart_same (λ (p : Part). p.three) found.1.parts.items split.values_apart goes.0 comes.0 goes.1 comes.1 goes.2 comes.2 goes.3 comes.3 (same_value (round_trit before r) x goes.1.three v goes.4.1 vx ∙ same_value (round_trit before r) y v comes.1.three vy comes.4.1) in
+          goes.4.0 ∙ ap (λ (p : Part). p.block) parts ∙ sym comes.4.0)
+      | inr stays ↦ round.others_stay x hx stays ∙ same ∙ sym (round.others_stay y hy (subst (λ n. All (λ (s : Split). s.parent ≢ n) r.splits.items) same stays))
+    ]
 
     -- every sorted state has a value in the round
     valued : (x : ℕ) → x < length system → (v : Three) × Val x v
     valued x h = elim (slice_get_cases system x).1 [
-        inl inside ↦ (value inside.0.shape inside.0.labels (map (round_trit before r) inside.0.targets), (inside.0, inside.2, refl))
-      | inr past ↦ absurd (omega (arith, past.0)) ]
+      | inl inside ↦ (value inside.0.shape inside.0.labels (map (round_trit before r) inside.0.targets), (inside.0, inside.2, refl))
+      | inr past ↦ absurd (omega (arith, past.0))
+    ]
 
     next_is : Holds number before → (x : ℕ) → x < length system → class_in after.coarse x ≡ coarse_next old (class_in before.coarse) r.splitter r.coarse r.inner r.outer x
     next_is held x h = ap (λ cs. class_in cs x) round.coarse_is ∙ class-coarse_after before.blocks before.coarse r x (held.coarse_each ∙ sym held.blocks_each) (subst (λ n. x < n) (sym held.blocks_each) h)
@@ -146,11 +154,11 @@ module _ {Shape Label : Type 0} (node : Shape → ℕ) (kin : Shape → Shape �
         let gb : IsGood node kin fits value agree laws (length system) b = good y b by_ in
         let next : ℕ → ℕ = coarse_next old (class_in before.coarse) r.splitter r.coarse r.inner r.outer in
         let found : agree (seen next a) (seen next b) = keeps_agree node kin fits value agree laws (length system) old (class_in before.coarse) r.splitter r.coarse r.inner r.outer
-              (λ e. omega (arith, round.inner_is, round.outer_is, e))
-              (λ t h. round.splitter_within t h)
-              (λ t h e. omega (arith, held.small t h, round.inner_is, e))
-              (λ t h e. omega (arith, held.small t h, round.outer_is, e))
-              a b ga gb (held.agrees x y a b ax by_ both.0) both.1 in
+        (λ e. omega (arith, round.inner_is, round.outer_is, e))
+        (λ t h. round.splitter_within t h)
+        (λ t h e. omega (arith, held.small t h, round.inner_is, e))
+        (λ t h e. omega (arith, held.small t h, round.outer_is, e))
+        a b ga gb (held.agrees x y a b ax by_ both.0) both.1 in
         agree_along node kin fits value agree laws a b _ _ _ _ (map_same (length system) next (class_in after.coarse) (λ t h. sym (next_is held t h)) a.targets ga.in_range) (map_same (length system) next (class_in after.coarse) (λ t h. sym (next_is held t h)) b.targets gb.in_range) found
 
     trit_small : (t : ℕ) → round_trit before r t ≤ 2
@@ -160,13 +168,13 @@ module _ {Shape Label : Type 0} (node : Shape → ℕ) (kin : Shape → Shape �
     keeps_coarsest held s stable x y hx hy same =
         let before_same : (t u : ℕ) → t < length system → u < length system → class_in s t ≡ class_in s u → old t ≡ old u = held.coarsest s stable in
         let trits : (t u : ℕ) → t < length system → u < length system → class_in s t ≡ class_in s u → round_trit before r t ≡ round_trit before r u =
-              λ t u ht hu e. (let olds : old t ≡ old u = before_same t u ht hu e in let coarse : class_in before.coarse t ≡ class_in before.coarse u = held.nested t u ht hu olds in rw (olds, coarse) refl) in
+        λ t u ht hu e. (let olds : old t ≡ old u = before_same t u ht hu e in let coarse : class_in before.coarse t ≡ class_in before.coarse u = held.nested t u ht hu olds in rw (olds, coarse) refl) in
         let vx : (v : Three) × Val x v = valued x hx in
         let vy : (v : Three) × Val y v = valued y hy in
         let a : Sorted Shape Label = vx.1.0 in
         let b : Sorted Shape Label = vy.1.0 in
         let one_value : value a.shape a.labels (map (round_trit before r) a.targets) ≡ value b.shape b.labels (map (round_trit before r) b.targets) =
-              stable_value node kin fits value agree laws (length system) s (sym stable.one_each) (round_trit before r) trit_small trits a b (good x a vx.1.1) (good y b vy.1.1) (stable.agrees x y a b vx.1.1 vy.1.1 same) in
+        stable_value node kin fits value agree laws (length system) s (sym stable.one_each) (round_trit before r) trit_small trits a b (good x a vx.1.1) (good y b vy.1.1) (stable.agrees x y a b vx.1.1 vy.1.1 same) in
         block_after x y (value a.shape a.labels (map (round_trit before r) a.targets)) hx hy (a, vx.1.1, refl) (b, vy.1.1, sym one_value) (before_same x y hx hy same)
 
     keeps_small : Holds number before → (x : ℕ) → x < length system → class_in after.coarse x ≤ 2 * (number + 1)

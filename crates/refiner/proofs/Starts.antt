@@ -50,11 +50,11 @@ pub by_node_and_value :
     AreByNodeAndValue node system values p2
 by_node_and_value {Shape} {Tag} node system nodes values p0 p1 p2 s1 s2 n one in_one named cut1 cut2 =
     let in_two : (x : ℕ) → x < states_of p1 → block_at p1 x < p1.count =
-          λ x hx. in_blocks_after nodes p0 p1 s1 cut1 in_one x (omega (arith, cut1.states)) in
+    λ x hx. in_blocks_after nodes p0 p1 s1 cut1 in_one x (omega (arith, cut1.states)) in
     let h0 : (x : ℕ) (a : Sorted Shape Tag) → IsState system x a → x < states_of p0 =
-          λ x a at. omega (arith, slice_get_within system x a at, n) in
+    λ x a at. omega (arith, slice_get_within system x a at, n) in
     let h1 : (x : ℕ) (a : Sorted Shape Tag) → IsState system x a → x < states_of p1 =
-          λ x a at. omega (arith, h0 x a at, cut1.states) in
+    λ x a at. omega (arith, h0 x a at, cut1.states) in
     record {
       together = λ x y a b ax by_ same value.
           cut_together values p1 p2 s2 cut2 in_two x y (h1 x a ax) (h1 y b by_)
@@ -102,22 +102,23 @@ module _
         let sa = state a.member (omega (arith, n, a.in_range)) in
         let sb = state b.member (omega (arith, n, b.in_range)) in
         let one : block_at p a.member ≡ block_at p b.member = split.together a.member b.member sa.0 sb.0 sa.1 sb.1
-              (a.node_is sa.0 sa.1 ∙ same_node ∙ sym (b.node_is sb.0 sb.1)) (a.three_is ∙ same_three ∙ sym b.three_is) in
+        (a.node_is sa.0 sa.1 ∙ same_node ∙ sym (b.node_is sb.0 sb.1)) (a.three_is ∙ same_three ∙ sym b.three_is) in
         omega (arith, one, a.here, b.here));
     none_empty = λ k d h. (
         let a = block_is k d h in
         contains_at p.block a.member (get_or start k d).block a.in_range (a.here ∙ sym a.number));
     exactly = λ k d h x hx. (
         let m = block_is k d h in
-        let sm = state m.member (omega (arith, n, m.in_range)) in
-        (λ e. (
-          let sx = state x hx in
-          let both = split.apart x m.member sx.0 sm.0 sx.1 sm.1 (e ∙ m.number ∙ sym m.here) in
-          ((sx.0, sx.1, both.0 ∙ m.node_is sm.0 sm.1), (sx.0, sx.1, vals.each x sx.0 sx.1 ∙ both.1 ∙ m.three_is))),
-         λ has. (
-          let v = has.1 in
-          split.together x m.member has.0.0 sm.0 has.0.1 sm.1 (has.0.2 ∙ sym (m.node_is sm.0 sm.1))
-          (sym (vals.each x v.0 v.1) ∙ v.2 ∙ sym m.three_is) ∙ m.here ∙ sym m.number)));
+        let sm = state m.member (omega (arith, n, m.in_range)) in (
+          λ e. (
+              let sx = state x hx in
+              let both = split.apart x m.member sx.0 sm.0 sx.1 sm.1 (e ∙ m.number ∙ sym m.here) in
+              ((sx.0, sx.1, both.0 ∙ m.node_is sm.0 sm.1), (sx.0, sx.1, vals.each x sx.0 sx.1 ∙ both.1 ∙ m.three_is))),
+          λ has. (
+              let v = has.1 in
+              split.together x m.member has.0.0 sm.0 has.0.1 sm.1 (has.0.2 ∙ sym (m.node_is sm.0 sm.1))
+              (sym (vals.each x v.0 v.1) ∙ v.2 ∙ sym m.three_is) ∙ m.here ∙ sym m.number),
+        ));
   }
 
 -- one element more, of which something holds at its place
@@ -128,10 +129,11 @@ pub push_each :
 push_each P xs out y n len e so_far here k d h =
     let at : get_or out k d ≡ get_or (xs ++ y ∷ []) k d = ap (λ l. get_or l k d) e in
     elim (cases_eq k n) [
-      inl last ↦ subst (P k) (sym (at ∙ get_or_push xs y d k (len ∙ sym last))) (subst (λ i. P i y) (sym last) here)
-    | inr other ↦ (
-        let lt : k < n = omega arith in
-        subst (P k) (sym (at ∙ get_or_append_left xs (y ∷ []) d k (omega (arith, len)))) (so_far k d lt)) ]
+      | inl last ↦ subst (P k) (sym (at ∙ get_or_push xs y d k (len ∙ sym last))) (subst (λ i. P i y) (sym last) here)
+      | inr other ↦ (
+          let lt : k < n = omega arith in
+          subst (P k) (sym (at ∙ get_or_append_left xs (y ∷ []) d k (omega (arith, len)))) (so_far k d lt))
+    ]
 
 -- before the first round all states are in coarse block 0
 pub first_coarse :
@@ -161,14 +163,14 @@ moment_starts {Shape} {Tag} node value system start begun after starts is coarse
     let n : ℕ = length system in
     let items : List ℕ = after.numbers.items in
     let zeros : items ≡ replicate begun.coarse.count 0 =
-          ap (λ (v : Vec ℕ Global). v.items) numbers ∙ is.numbers in
+    ap (λ (v : Vec ℕ Global). v.items) numbers ∙ is.numbers in
     let none : (c : ℕ) → get_or items c 0 ≡ 0 =
-          all_zero items
-          (λ k h. ap (λ l. get_or l k 0) zeros
-          ∙ get_or-replicate begun.coarse.count k 0 0 (omega (arith, h, ap length zeros, length-replicate {A = ℕ} begun.coarse.count 0))) in
+    all_zero items
+    (λ k h. ap (λ l. get_or l k 0) zeros
+    ∙ get_or-replicate begun.coarse.count k 0 0 (omega (arith, h, ap length zeros, length-replicate {A = ℕ} begun.coarse.count 0))) in
     let one : after.coarse.block ≡ replicate n 0 = ap (λ (q : Blocks). q.block) coarse ∙ is.coarse in
     let same : map (λ c. get_or items c 0) after.coarse.block ≡ map (λ _. 0) system =
-          first_coarse (λ c. get_or items c 0) after.coarse.block system (ap length one ∙ length-replicate n 0) none in
+    first_coarse (λ c. get_or items c 0) after.coarse.block system (ap length one ∙ length-replicate n 0) none in
     subst (λ cs. IsStart node value system start (record { blocks = after.blocks.block; coarse = cs })) (sym same) starts
 
 -- a list of zeros has no other number
@@ -185,7 +187,7 @@ pub ready_begun :
 ready_begun n p blocks begun states in_range unmarked =
     let coarse_states : states_of p.coarse ≡ n = ap length begun.coarse ∙ length-replicate n 0 in
     let zero_at : (x : ℕ) → x < n → block_at p.coarse x ≡ 0 =
-          λ x hx. ap (λ l. get_or l x 0) begun.coarse ∙ get_or-replicate n x 0 0 hx in
+    λ x hx. ap (λ l. get_or l x 0) begun.coarse ∙ get_or-replicate n x 0 0 hx in
     let count : (x : ℕ) → x < n → p.coarse.count ≡ 1 = λ x hx. begun.one (omega arith) in
     let many : length p.waiting.items ≡ p.coarse.count = ap length begun.waiting ∙ length-replicate {A = ℕ} p.coarse.count 0 in
     let numbers : length p.numbers.items ≡ p.coarse.count = ap length begun.numbers ∙ length-replicate {A = ℕ} p.coarse.count 0 in
@@ -206,15 +208,15 @@ ready_begun n p blocks begun states in_range unmarked =
       scans_small = no_more p.scans.items n 0 begun.scans;
       waiting = record {
         live = λ k d h. (
-          let hk : k < p.coarse.count = omega (arith, many) in
-          omega (arith, ap (λ l. get_or l k d) begun.waiting, get_or-replicate p.coarse.count k 0 d hk, hk));
+            let hk : k < p.coarse.count = omega (arith, many) in
+            omega (arith, ap (λ l. get_or l k d) begun.waiting, get_or-replicate p.coarse.count k 0 d hk, hk));
         every = λ x y hx hy same other. (
-          let h : x < n = omega (arith, states) in
-          let hk : 0 < p.coarse.count = omega (arith, count x h) in
-          (0, omega (arith, many, hk), ap (λ l. get_or l 0 (block_at p.coarse x)) begun.waiting ∙ get_or-replicate p.coarse.count 0 0 (block_at p.coarse x) hk ∙ sym (zero_at x h)));
+            let h : x < n = omega (arith, states) in
+            let hk : 0 < p.coarse.count = omega (arith, count x h) in
+            (0, omega (arith, many, hk), ap (λ l. get_or l 0 (block_at p.coarse x)) begun.waiting ∙ get_or-replicate p.coarse.count 0 0 (block_at p.coarse x) hk ∙ sym (zero_at x h)));
       };
     }
-    where
+  where
     few_of : (m c : ℕ) → c ≤ 1 → (m ≡ 0 → c ≡ 0) → c ≤ m
     few_of zero c few none = omega (arith, none refl)
     few_of (suc m) c few none = omega arith

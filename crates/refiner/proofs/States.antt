@@ -45,9 +45,10 @@ state_at_zero x shapes edges s e = subst (λ n. IsState (system_from 0 shapes ed
 
 -- one value more
 pub values_more : {Shape Label : Type 0} (value : Shape → List Label → List ℕ → Three) (system : List (Sorted Shape Label)) (trit : ℕ → ℕ) (values out : List Three) (x : ℕ) (three : Three) (a0 : Sorted Shape Label) → length values ≡ x → out ≡ values ++ three ∷ [] → IsState system x a0 → value a0.shape a0.labels (map trit a0.targets) ≡ three
-  → ((k : ℕ) (a : Sorted Shape Label) → k < x → IsState system k a → value a.shape a.labels (map trit a.targets) ≡ value_at values k)
-  → (k : ℕ) (a : Sorted Shape Label) → k < x + 1 → IsState system k a → value a.shape a.labels (map trit a.targets) ≡ value_at out k
+    → ((k : ℕ) (a : Sorted Shape Label) → k < x → IsState system k a → value a.shape a.labels (map trit a.targets) ≡ value_at values k)
+    → (k : ℕ) (a : Sorted Shape Label) → k < x + 1 → IsState system k a → value a.shape a.labels (map trit a.targets) ≡ value_at out k
 values_more value system trit values out x three a0 len oe is0 v0 so_far k a hk is = elim (cases_eq k x) [
-    inl same ↦ (let one : a ≡ a0 = element_at system x a a0 (subst (λ n. slice_get system n ≡ Some a) same is) is0 in
+  | inl same ↦ (let one : a ≡ a0 = element_at system x a a0 (subst (λ n. slice_get system n ≡ Some a) same is) is0 in
       ap (λ (b : Sorted _ _). value b.shape b.labels (map trit b.targets)) one ∙ v0 ∙ sym (ap (λ l. value_at l k) oe ∙ get_or_push values three (Trit 0) k (len ∙ sym same)))
-  | inr other ↦ (let lt : k < x = omega arith in so_far k a lt is ∙ sym (ap (λ l. value_at l k) oe ∙ get_or_append_left values (three ∷ []) (Trit 0) k (omega arith))) ]
+  | inr other ↦ (let lt : k < x = omega arith in so_far k a lt is ∙ sym (ap (λ l. value_at l k) oe ∙ get_or_append_left values (three ∷ []) (Trit 0) k (omega arith)))
+]

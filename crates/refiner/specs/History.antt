@@ -3,7 +3,8 @@
 --     Moment, last_moment         the blocks and coarse blocks of all states; the last of several
 --     round_trit, coarse_after    a target's trit in a round, and the coarse blocks after it
 --     IsStart                     the blocks before the first round: the states by node and value
---     IsSplit, IsRound            a block splits by its members' values; a splitter moves, blocks split
+--     HasNode, Has                a state has a node, or a value
+--     IsSplit, IsRound            a block splits by its members' values; a splitter moves
 --     AreRounds                   each round leads from one moment to the next
 --     scans_of                    in how many rounds a state stood in the splitter
 --     IsLegal                     the history of an answer
@@ -27,7 +28,7 @@ abbrev pub last_moment : Moment → List Moment → Moment
 last_moment m [] = m
 last_moment m (after ∷ later) = last_moment after later
 
--- the trit of a target in a round: 2 in the splitter, 1 in the rest of its coarse block, 0 elsewhere
+-- a target's trit in a round: 2 in the splitter, 1 in the rest of its coarse block, 0 elsewhere
 abbrev pub round_trit : Moment → Round → ℕ → ℕ
 round_trit m r t =
     if class_in m.blocks t == r.splitter then 2
@@ -81,16 +82,17 @@ module _
         (x : ℕ) → x < length system → Any (λ (p : Start). class_in m.blocks x ≡ p.block) start
     pub numbers_apart : AllPairs (λ (p : Start). λ (q : Start). p.block ≢ q.block) start
     pub pairs_apart :
-        AllPairs (λ (p : Start). λ (q : Start). (p.node ≡ q.node) → (p.three ≡ q.three) → ⊥) start
+        AllPairs (λ (p : Start). λ (q : Start). (p.node ≡ q.node) → (p.three ≡ q.three) → ⊥)
+        start
     pub none_empty : All (λ (p : Start). Contains m.blocks p.block) start
     pub exactly :
         All (λ (p : Start). (x : ℕ) → x < length system →
         (class_in m.blocks x ≡ p.block) ↔ (HasNode x p.node × Has (λ _. 2) x p.three)) start
 
   -- The parent of a split is a live block. There are at least two parts, with distinct values and
-  -- distinct numbers, and none is empty. One part keeps the parent's number, and each other part has
-  -- a new number. Each member of the parent is in a part, and each part has exactly those members of
-  -- the parent that have the part's value.
+  -- distinct numbers, and none is empty. One part keeps the parent's number, and each other part
+  -- has a new number. Each member of the parent is in a part, and each part has exactly those
+  -- members of the parent that have the part's value.
   pub record IsSplit (before after : Moment) (r : Round) (s : Split) : Type 0 where
     pub live : Contains before.blocks s.parent
     pub two : 2 ≤ length s.parts.items

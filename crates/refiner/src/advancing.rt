@@ -47,7 +47,8 @@ fn one_round<I: Iface, L: Ledger>(
     ensures splitter { IfOk result (λ r. r.0.splitter ≡ block_at progress.old.blocks x) }
     ensures left { IfOk result (λ r. r.0.coarse
         ≡ slice_index progress.old.numbers.items (block_at progress.old.coarse x)) }
-    ensures one_more { IfOk result (λ _. progress.new.coarse.count ≡ progress.old.coarse.count + 1) }
+    ensures one_more { IfOk result (λ _.
+        progress.new.coarse.count ≡ progress.old.coarse.count + 1) }
     ensures scans { IfOk result (λ r. (z : ℕ) → z < store.now.0 →
         slice_index progress.new.scans.items z ≡ slice_index progress.old.scans.items z
         + (if block_at progress.old.blocks z == r.0.splitter then 1 else 0)) }
@@ -127,9 +128,7 @@ pub(crate) fn all_rounds<I: Iface, L: Ledger>(
     let mut rounds = Vec::new(alloc);
     let mut labels = 0u64;
     let mut number = 0u32;
-    while let Some((x, _y)) =
-        find_torn(&progress.blocks, &progress.coarse, &mut progress.waiting)
-    {
+    while let Some((x, _y)) = find_torn(&progress.blocks, &progress.coarse, &mut progress.waiting) {
         let (round, many) = one_round(iface, alloc, shapes, store, progress, number, x, steps)?;
         rounds.push(round)?;
         number += 1;

@@ -48,7 +48,6 @@ pub(crate) fn recomputed<I: Iface, L: Ledger>(
     requires steps_fit { steps.old ≤ 2 ^ 61 + 2 ^ 60 }
     ensures value { IfOk result (λ r. r.0 ≡ I.value iface.now shape.now labels.now trits.now) }
     ensures rise { IfOk result (λ r. steps.new ≡ steps.old + r.1) }
-    ensures low { IfOk result (λ r. length labels.now ≤ r.1) }
     ensures high { IfOk result (λ r. r.1 ≤ 3 * length labels.now) }
     ensures grows { steps.old ≤ steps.new }
 {

@@ -1,11 +1,10 @@
 //! The values of all states in a round.
 
-ghost use Rattle.std.specs.Prelude.{◌≡◌, ◌+◌, ◌*◌, ◌<◌, ◌≤◌, ◌^◌, ◌==◌, ℕ, cond, length, map, All, IfOk, slice_index};
-ghost use Rattle.refinable_partition.specs.Blocks.{block_at, states_of};
-ghost use Rattle.edge_store.specs.Edges.{targets_from, labels_from, first_of, sources_of, below};
-ghost use Rattle.sorted_systems.specs.Systems.{IsSystem, IsState, system_from, Sorted};
+ghost use Rattle.std.specs.Prelude.{◌≡◌, ◌+◌, ◌*◌, ◌<◌, ◌≤◌, ◌^◌, length, map, IfOk};
+ghost use Rattle.edge_store.specs.Edges.{targets_from};
+ghost use Rattle.refinable_partition.specs.Blocks.{states_of};
+ghost use Rattle.sorted_systems.specs.Systems.{IsSystem, system_from};
 ghost use Rattle.refiner.specs.Making.{trit_in, AreValues};
-ghost use Rattle.refiner.specs.Grouping.{value_at};
 
 use crate::recompute::recomputed;
 use edge_store::EdgeStore;
@@ -16,15 +15,15 @@ use refinable_partition::Partition;
 use std::alloc::{AllocError, Global};
 use std::sync::ledger::Ledger;
 
-/// The trit of a target.
-fn trit(blocks: &Partition, coarse: &Partition, splitter: u32, c: u32, t: u32) -> u8
-    requires in_blocks { t < states_of blocks.now }
-    requires in_coarse { t < states_of coarse.now }
-    ensures { result ≡ trit_in blocks.now coarse.now splitter c t }
+/// The trit of a target: 2 in the splitter, 1 in the rest of coarse block c, 0 elsewhere.
+fn trit(blocks: &Partition, coarse: &Partition, splitter: u32, c: u32, target: u32) -> u8
+    requires in_blocks { target < states_of blocks.now }
+    requires in_coarse { target < states_of coarse.now }
+    ensures { result ≡ trit_in blocks.now coarse.now splitter c target }
 {
-    if blocks.block_of(t) == splitter {
+    if blocks.block_of(target) == splitter {
         2
-    } else if coarse.block_of(t) == c {
+    } else if coarse.block_of(target) == c {
         1
     } else {
         0
@@ -45,7 +44,8 @@ fn trits_toward<A: Copy>(
     requires few { length store.now.1 < 2 ^ 26 }
     requires blocks { states_of blocks.now ≡ store.now.0 }
     requires coarse { states_of coarse.now ≡ store.now.0 }
-    ensures { IfOk result (λ v. v.items ≡ map (trit_in blocks.now coarse.now splitter c) (targets_from store.now.1 x)) }
+    ensures { IfOk result (λ v.
+        v.items ≡ map (trit_in blocks.now coarse.now splitter c) (targets_from store.now.1 x)) }
 {
     let first = store.first_from(x);
     let many = store.from_state(x).len() as u32;
@@ -57,7 +57,7 @@ fn trits_toward<A: Copy>(
     Ok(trits)
 }
 
-/// The value of each state, and how many labels were looked at.
+/// The value of each state in a round, and how many labels were counted.
 pub(crate) fn all_values<I: Iface, L: Ledger>(
     iface: &I,
     alloc: Global,
@@ -70,23 +70,32 @@ pub(crate) fn all_values<I: Iface, L: Ledger>(
     steps: &mut Steps<L>,
 ) -> Result<(Vec<Three>, u64), AllocError>
     requires one_shape { length shapes.now ≡ store.now.0 }
-    requires system { IsSystem (I.node iface.now) (I.kin iface.now) (I.fits iface.now) (system_from 0 shapes.now store.now.1) }
+    requires system { IsSystem (I.node iface.now) (I.kin iface.now) (I.fits iface.now)
+        (system_from 0 shapes.now store.now.1) }
     requires in_blocks { states_of blocks.now ≡ store.now.0 }
     requires in_coarse { states_of coarse.now ≡ store.now.0 }
     requires steps_fit { steps.old ≤ 2 ^ 61 + 2 ^ 59 }
-    ensures values { IfOk result (λ r. AreValues (I.value iface.now) (system_from 0 shapes.now store.now.1) (trit_in blocks.now coarse.now splitter c) r.0.items) }
+    ensures values { IfOk result (λ r. AreValues (I.value iface.now)
+        (system_from 0 shapes.now store.now.1) (trit_in blocks.now coarse.now splitter c)
+        r.0.items) }
     ensures rise { IfOk result (λ r. steps.new ≡ steps.old + r.1) }
-    ensures low { IfOk result (λ r. length store.now.1 ≤ r.1) }
     ensures high { IfOk result (λ r. r.1 ≤ 3 * length store.now.1) }
     ensures grows { steps.old ≤ steps.new }
 {
     let _edges = store.len();
-    let mut values = Vec::new(alloc);
+    let mut values = Vec::with_capacity(alloc, shapes.len())?;
     let mut labels = 0u64;
     for x in 0..store.states() {
         let trits = trits_toward(alloc, store, blocks, coarse, splitter, c, x)?;
         let _first = store.first_from(x);
-        let (three, many) = recomputed(iface, alloc, &shapes[x as usize], store.from_state(x), trits.as_slice(), steps)?;
+        let (three, many) = recomputed(
+            iface,
+            alloc,
+            &shapes[x as usize],
+            store.from_state(x),
+            trits.as_slice(),
+            steps,
+        )?;
         values.push(three)?;
         labels += many;
     }

@@ -19,11 +19,12 @@ loop-x-init g c = record {
       here = refl;
       halves = rw c.new-rounds.ensures.items tt;
       counted = λ y hy. (
-        let n = length-system_from 0 c.args.shapes.now c.args.store.now.1 in
-        let few : get_or c.args.progress.now.scans.items y 0 ≤ 0 =
-              c.requires.ready.scans_small y 0 (omega (arith, hy, n, c.requires.one_shape, c.requires.ready.one_scan)) in
-        rw c.new-rounds.ensures.items (omega (arith, few)));
-    });
+          let n = length-system_from 0 c.args.shapes.now c.args.store.now.1 in
+          let few : get_or c.args.progress.now.scans.items y 0 ≤ 0 =
+          c.requires.ready.scans_small y 0 (omega (arith, hy, n, c.requires.one_shape, c.requires.ready.one_scan)) in
+          rw c.new-rounds.ensures.items (omega (arith, few)));
+    },
+  );
   ready = c.requires.ready;
   number_is = sym (ap length c.new-rounds.ensures.items);
   few = omega arith;
@@ -79,20 +80,21 @@ loop-x-preserved g c =
     let after = c.one_round.new.progress in
     let n = length-system_from 0 c.args.shapes.now c.args.store.now.1 in
     let round : IsRound (g.I.Iface.node c.args.iface.now) (g.I.Iface.value c.args.iface.now) (system_from 0 c.args.shapes.now c.args.store.now.1) (length c.loop-x.rounds.items) (moment_at p) (moment_at after) c.in_ok-round.round =
-          subst (λ k. IsRound (g.I.Iface.node c.args.iface.now) (g.I.Iface.value c.args.iface.now) (system_from 0 c.args.shapes.now c.args.store.now.1) k (moment_at p) (moment_at after) c.in_ok-round.round)
-          c.loop-x.invariant.number_is c.in_ok-round.ensures.round in
+    subst (λ k. IsRound (g.I.Iface.node c.args.iface.now) (g.I.Iface.value c.args.iface.now) (system_from 0 c.args.shapes.now c.args.store.now.1) k (moment_at p) (moment_at after) c.in_ok-round.round)
+    c.loop-x.invariant.number_is c.in_ok-round.ensures.round in
     let half : 2 * size_of (moment_at p).blocks c.in_ok-round.round.splitter ≤ size_of (moment_at p).coarse c.in_ok-round.round.coarse =
-          half_made p.blocks p.coarse p.numbers.items c.in-Some.x c.in_ok-round.round.splitter c.in_ok-round.round.coarse
-          c.in-Some.ensures.half c.in_ok-round.ensures.splitter c.in_ok-round.ensures.left in
+    half_made p.blocks p.coarse p.numbers.items c.in-Some.x c.in_ok-round.round.splitter c.in_ok-round.round.coarse
+    c.in-Some.ensures.half c.in_ok-round.ensures.splitter c.in_ok-round.ensures.left in
     record {
       history = (
         h.0 ++ moment_at after ∷ [],
         rw c.in_ok-push.ensures.items
-        (leads_on (g.I.Iface.node c.args.iface.now) (g.I.Iface.value c.args.iface.now)
-        (system_from 0 c.args.shapes.now c.args.store.now.1) (moment_at c.args.progress.now) h.0
-        c.loop-x.rounds.items (moment_at p) (moment_at after) c.in_ok-round.round p.scans.items
-        after.scans.items h.1 round half
-        (λ y hy. c.in_ok-round.ensures.scans y (omega (arith, hy, n, c.requires.one_shape)))));
+            (leads_on (g.I.Iface.node c.args.iface.now) (g.I.Iface.value c.args.iface.now)
+            (system_from 0 c.args.shapes.now c.args.store.now.1) (moment_at c.args.progress.now) h.0
+            c.loop-x.rounds.items (moment_at p) (moment_at after) c.in_ok-round.round p.scans.items
+            after.scans.items h.1 round half
+            (λ y hy. c.in_ok-round.ensures.scans y (omega (arith, hy, n, c.requires.one_shape)))),
+      );
       ready = c.in_ok-round.ensures.ready;
       number_is = omega (arith, ap length c.in_ok-push.ensures.items, length_push c.loop-x.rounds.items c.in_ok-round.round, c.loop-x.invariant.number_is);
       few = omega (arith, c.in_ok-round.ensures.one_more, c.loop-x.invariant.few);

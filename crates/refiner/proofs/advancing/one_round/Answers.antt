@@ -33,11 +33,11 @@ returns-clause-round g c =
     let ready = c.requires.ready.numbered in
     let n = length-system_from 0 c.args.shapes.now c.args.store.now.1 in
     let was : c.index-coarse.result.now ≡ get_or p.numbers.items c.block_of-c.result 0 =
-          get_or_read p.numbers.items c.block_of-c.result c.index-coarse.result.now
-          (omega (arith, ready.one_number, c.block_of-c.ensures.in_range)) c.index-coarse.ensures 0 in
+    get_or_read p.numbers.items c.block_of-c.result c.index-coarse.result.now
+    (omega (arith, ready.one_number, c.block_of-c.ensures.in_range)) c.index-coarse.ensures 0 in
     let cut : AreCut c.in_ok-values.values.items p.blocks.count p.blocks c.split_all.new.blocks c.in_ok-splits.splits.items =
-          subst (λ (vs : List Three). AreCut vs p.blocks.count p.blocks c.split_all.new.blocks c.in_ok-splits.splits.items)
-          c.as_slice.ensures.value c.in_ok-splits.ensures in
+    subst (λ (vs : List Three). AreCut vs p.blocks.count p.blocks c.split_all.new.blocks c.in_ok-splits.splits.items)
+    c.as_slice.ensures.value c.in_ok-splits.ensures in
     round_made (g.I.Iface.node c.args.iface.now) (g.I.Iface.value c.args.iface.now)
     (system_from 0 c.args.shapes.now c.args.store.now.1)
     (λ x a at. below_from_all _ _ (c.requires.system.in_range x a at))
@@ -64,10 +64,10 @@ returns-clause-ready g c =
     let hc : k < length p.numbers.items = omega (arith, ready.one_number, c.block_of-c.ensures.in_range) in
     let states : length c.split_all.new.blocks.block ≡ c.args.store.now.0 = c.in_ok-splits.ensures.states ∙ was.states in
     let coarse : length c.take_out.new.coarse.block ≡ length c.split_all.new.blocks.block =
-          c.take_out.ensures.states ∙ ready.states ∙ sym c.in_ok-splits.ensures.states in
+    c.take_out.ensures.states ∙ ready.states ∙ sym c.in_ok-splits.ensures.states in
     let cut : AreCut c.in_ok-values.values.items p.blocks.count p.blocks c.split_all.new.blocks c.in_ok-splits.splits.items =
-          subst (λ (vs : List Three). AreCut vs p.blocks.count p.blocks c.split_all.new.blocks c.in_ok-splits.splits.items)
-          c.as_slice.ensures.value c.in_ok-splits.ensures in
+    subst (λ (vs : List Three). AreCut vs p.blocks.count p.blocks c.split_all.new.blocks c.in_ok-splits.splits.items)
+    c.as_slice.ensures.value c.in_ok-splits.ensures in
     record {
       states = states;
       numbered = record {

@@ -22,8 +22,8 @@ loop-x-preserved g c =
     let at : slice_get c.args.shapes.now c.loop-x.x ≡ Some c.index-shapes-x.result = slice_get_read c.args.shapes.now (length c.args.shapes.now) c.loop-x.x c.index-shapes-x.result refl hx c.index-shapes-x.is in
     let is : IsState (system_from 0 c.args.shapes.now c.args.store.now.1) c.loop-x.x (record { shape = c.index-shapes-x.result; labels = labels_from c.args.store.now.1 c.loop-x.x; targets = targets_from c.args.store.now.1 c.loop-x.x }) = state_at_zero c.loop-x.x c.args.shapes.now c.args.store.now.1 c.index-shapes-x.result at in
     let value : g.I.Iface.value c.args.iface.now c.index-shapes-x.result (labels_from c.args.store.now.1 c.loop-x.x) (map (λ _. 2) (targets_from c.args.store.now.1 c.loop-x.x)) ≡ c.in_ok-three.three =
-          ap (g.I.Iface.value c.args.iface.now c.index-shapes-x.result (labels_from c.args.store.now.1 c.loop-x.x)) (two_each (targets_from c.args.store.now.1 c.loop-x.x) (labels_from c.args.store.now.1 c.loop-x.x) c.first_from-first.ensures.as_many)
-          ∙ ap (λ ls. g.I.Iface.value c.args.iface.now c.index-shapes-x.result ls (each 2 ls)) (sym c.from_state-from.ensures.labels) ∙ sym c.in_ok-three.ensures.three in
+    ap (g.I.Iface.value c.args.iface.now c.index-shapes-x.result (labels_from c.args.store.now.1 c.loop-x.x)) (two_each (targets_from c.args.store.now.1 c.loop-x.x) (labels_from c.args.store.now.1 c.loop-x.x) c.first_from-first.ensures.as_many)
+    ∙ ap (λ ls. g.I.Iface.value c.args.iface.now c.index-shapes-x.result ls (each 2 ls)) (sym c.from_state-from.ensures.labels) ∙ sym c.in_ok-three.ensures.three in
     record {
       len = ap length c.in_ok-push.ensures.items ∙ omega (arith, length_push c.loop-x.values.items c.in_ok-three.three, c.loop-x.invariant.len);
       each = values_more (g.I.Iface.value c.args.iface.now) (system_from 0 c.args.shapes.now c.args.store.now.1) (λ _. 2) c.loop-x.values.items c.push.new.self.items c.loop-x.x c.in_ok-three.three _ c.loop-x.invariant.len c.in_ok-push.ensures.items is value c.loop-x.invariant.each;

@@ -26,13 +26,12 @@ loop-x-preserved g c =
     let at : slice_get c.args.shapes.now c.loop-x.x ≡ Some c.index-shapes-x.result = slice_get_read c.args.shapes.now (length c.args.shapes.now) c.loop-x.x c.index-shapes-x.result refl hx c.index-shapes-x.is in
     let is : IsState (system_from 0 c.args.shapes.now c.args.store.now.1) c.loop-x.x (record { shape = c.index-shapes-x.result; labels = labels_from c.args.store.now.1 c.loop-x.x; targets = targets_from c.args.store.now.1 c.loop-x.x }) = state_at_zero c.loop-x.x c.args.shapes.now c.args.store.now.1 c.index-shapes-x.result at in
     let value : g.I.Iface.value c.args.iface.now c.index-shapes-x.result (labels_from c.args.store.now.1 c.loop-x.x) (map (trit_in c.args.blocks.now c.args.coarse.now c.args.splitter c.args.c) (targets_from c.args.store.now.1 c.loop-x.x)) ≡ c.in_ok-three.three =
-          ap (λ ls. g.I.Iface.value c.args.iface.now c.index-shapes-x.result ls (map (trit_in c.args.blocks.now c.args.coarse.now c.args.splitter c.args.c) (targets_from c.args.store.now.1 c.loop-x.x))) (sym c.from_state.ensures.labels)
-          ∙ ap (g.I.Iface.value c.args.iface.now c.index-shapes-x.result c.from_state.result.now) (sym (c.as_slice.ensures.value ∙ c.in_ok-trits.ensures)) ∙ sym c.in_ok-three.ensures.value in
+    ap (λ ls. g.I.Iface.value c.args.iface.now c.index-shapes-x.result ls (map (trit_in c.args.blocks.now c.args.coarse.now c.args.splitter c.args.c) (targets_from c.args.store.now.1 c.loop-x.x))) (sym c.from_state.ensures.labels)
+    ∙ ap (g.I.Iface.value c.args.iface.now c.index-shapes-x.result c.from_state.result.now) (sym (c.as_slice.ensures.value ∙ c.in_ok-trits.ensures)) ∙ sym c.in_ok-three.ensures.value in
     record {
       len = ap length c.in_ok-push.ensures.items ∙ omega (arith, length_push c.loop-x.values.items c.in_ok-three.three, c.loop-x.invariant.len);
       each = values_more (g.I.Iface.value c.args.iface.now) (system_from 0 c.args.shapes.now c.args.store.now.1) (trit_in c.args.blocks.now c.args.coarse.now c.args.splitter c.args.c) c.loop-x.values.items c.push.new.self.items c.loop-x.x c.in_ok-three.three _ c.loop-x.invariant.len c.in_ok-push.ensures.items is value c.loop-x.invariant.each;
       rise = omega (arith, c.in_ok-three.ensures.rise, c.loop-x.invariant.rise);
-      low = omega (arith, c.in_ok-three.ensures.low, c.loop-x.invariant.low, c.first_from-first.ensures.next, c.first_from-first.ensures.first, ap length c.from_state.ensures.labels);
       high = omega (arith, c.in_ok-three.ensures.high, c.loop-x.invariant.high, c.first_from-first.ensures.next, c.first_from-first.ensures.first, ap length c.from_state.ensures.labels);
     }
 
