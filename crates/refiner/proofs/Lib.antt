@@ -1,3 +1,8 @@
+pub mod Lists
+pub mod Keeps
+pub mod Rounds
+pub mod Ends
+pub mod TwoMoves
 pub mod Order
 pub mod Parting
 pub mod Cutting
@@ -5,3 +10,12 @@ pub mod Walking
 pub mod Splits
 pub mod Sizes
 pub mod Waiting
+pub mod Apart
+pub mod RoundMade
+pub mod Append
+pub mod Halves
+pub mod TakenOut
+pub mod States
+pub mod Starts
+pub mod Ready
+pub mod Nested

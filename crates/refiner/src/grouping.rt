@@ -17,7 +17,7 @@ use std::alloc::{AllocError, Global};
 use std::cmp::Ordering;
 
 /// Splits each block by the values of its members.
-pub fn split_all(
+pub(crate) fn split_all(
     alloc: Global,
     blocks: &mut Partition,
     values: &[Three],

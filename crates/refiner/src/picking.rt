@@ -15,7 +15,7 @@ use std::alloc::AllocError;
 
 /// Two states of one coarse block that are in different blocks, the one in the smaller block first.
 /// Coarse blocks that are one block are taken off the list.
-pub fn find_torn(
+pub(crate) fn find_torn(
     blocks: &Partition,
     coarse: &Partition,
     waiting: &mut Vec<u32>,
@@ -73,7 +73,7 @@ fn smaller_first(blocks: &Partition, x: u32, y: u32) -> (u32, u32)
 }
 
 /// Adds the coarse blocks of the blocks that split. Each parent is a block.
-pub fn add_waiting(
+pub(crate) fn add_waiting(
     blocks: &Partition,
     coarse: &Partition,
     splits: &[Split],
