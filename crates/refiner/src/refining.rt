@@ -1,0 +1,98 @@
+//! The public call.
+
+ghost use Rattle.std.specs.Prelude.{◌≡◌, ◌+◌, ◌<◌, ◌≤◌, ◌^◌, ℕ, List, length, slice_index, Contains, IfOk};
+ghost use Rattle.refinable_partition.specs.Blocks.{block_at, states_of};
+ghost use Rattle.sorted_systems.specs.Systems.{IsSystem, IsGreatestStable, system_from};
+ghost use Rattle.refiner.specs.History.{Moment, IsLegal, AreHalves};
+
+use crate::advancing::all_rounds;
+use crate::history::Refined;
+use crate::progress::Progress;
+use crate::starting::{first_values, start_blocks};
+use edge_store::EdgeStore;
+use iface::Iface;
+use outside::Steps;
+use refinable_partition::Partition;
+use std::alloc::{AllocError, Global};
+use std::sync::ledger::Ledger;
+
+/// The block of each state.
+fn block_list(alloc: Global, blocks: &Partition) -> Result<Vec<u32>, AllocError>
+    ensures { IfOk result (λ v. v.items ≡ blocks.now.block) }
+{
+    let mut found = Vec::with_capacity(alloc, blocks.states() as usize)?;
+    for x in 0..blocks.states() {
+        found.push(blocks.block_of(x))?;
+    }
+    Ok(found)
+}
+
+/// How many blocks there are. It looks at the size of each, and so sees that none is empty.
+fn count_blocks(blocks: &Partition) -> u32
+    ensures count { result ≡ blocks.now.count }
+    ensures in_range { (x : ℕ) → x < states_of blocks.now → block_at blocks.now x < result }
+    ensures none_empty { (b : ℕ) → b < result → Contains blocks.now.block b }
+{
+    let count = blocks.blocks();
+    for b in 0..count {
+        let _members = blocks.members(b);
+    }
+    count
+}
+
+/// The greatest stable labelling of the states with these shapes and edges, with a legal history of
+/// rounds whose splitters have at most half of the members of their coarse blocks.
+///
+/// There are fewer than 2^26 states, a shape for each, and at most 2^61 steps before. Each shape
+/// fits the labels of its edges, and any two shapes of one node are kin. The error is want of
+/// memory.
+///
+/// Source: the algorithm of R. Paige and R. E. Tarjan, "Three partition refinement algorithms"
+/// (1987), as T. Wißmann, U. Dorsch, S. Milius and L. Schröder have it for functors, "Efficient and
+/// modular coalgebraic partition refinement" (2020).
+pub fn refine<I: Iface, L: Ledger>(
+    iface: &I,
+    alloc: Global,
+    shapes: &[I::Shape],
+    store: &EdgeStore<I::Label>,
+    steps: &mut Steps<L>,
+) -> Result<Refined, AllocError>
+    requires few_states { store.now.0 < 2 ^ 26 }
+    requires one_shape { length shapes.now ≡ store.now.0 }
+    requires system { IsSystem (I.node iface.now) (I.kin iface.now) (I.fits iface.now)
+        (system_from 0 shapes.now store.now.1) }
+    requires steps_fit { steps.old ≤ 2 ^ 61 }
+    ensures greatest { IfOk result (λ r. IsGreatestStable (I.agree iface.now)
+        (system_from 0 shapes.now store.now.1) r.block_of.items) }
+    ensures legal { IfOk result (λ r. (first : Moment) × (later : List Moment) ×
+        IsLegal (I.node iface.now) (I.value iface.now) (system_from 0 shapes.now store.now.1)
+        r first later × AreHalves first later r.rounds.items) }
+    ensures scans { IfOk result (λ r. (y : ℕ) → y < store.now.0 →
+        2 ^ slice_index r.scans.items y ≤ store.now.0) }
+    ensures rise { IfOk result (λ r. steps.new ≡ steps.old + r.labels) }
+    ensures labels { IfOk result (λ r. length store.now.1 ≤ r.labels) }
+    ensures grows { steps.old ≤ steps.new }
+{
+    let n = store.states();
+    let _edges = store.len();
+    let (values, first_labels) = first_values(iface, alloc, shapes, store, steps)?;
+    let mut progress = Progress::begun(alloc, n)?;
+    let start = start_blocks(
+        iface,
+        alloc,
+        shapes,
+        store,
+        &mut progress.blocks,
+        values.as_slice(),
+    )?;
+    let (rounds, later_labels) = all_rounds(iface, alloc, shapes, store, &mut progress, steps)?;
+    let Progress { blocks, scans, .. } = progress;
+    Ok(Refined {
+        block_of: block_list(alloc, &blocks)?,
+        blocks: count_blocks(&blocks),
+        start,
+        rounds,
+        scans,
+        labels: first_labels + later_labels,
+    })
+}
