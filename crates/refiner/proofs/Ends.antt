@@ -7,8 +7,8 @@ use Rattle.iface.specs.Structures.{Classed, IfaceLaws}
 use Rattle.iface.specs.Trits.{each}
 use Rattle.refiner.specs.declared.history.Start.{Start}
 use Rattle.refiner.specs.declared.history.Round.{Round}
-use Rattle.sorted_systems.specs.Systems.{Sorted, IsState, IsStable, IsGreatestStable, Refines, HasValue, seen, class_in}
-use Rattle.refiner.specs.History.{Moment, IsStart, HasNode, Has, AreRounds, last_moment}
+use Rattle.sorted_systems.specs.Systems.{Sorted, IsState, IsStable, IsGreatestStable, Refines, HasNode, HasValue, seen, class_in}
+use Rattle.refiner.specs.History.{Moment, IsStart, AreRounds, last_moment}
 use Rattle.refiner.proofs.Lists.{all_at, apart_same, pair_either, element_at}
 use Rattle.refiner.proofs.Keeps.{Below, IsGood, index_of, index_of-get, map-map, map_same, length-map, stable_value, agree_along, fitting}
 use Rattle.refiner.proofs.Rounds.{Holds, same_value, round_keeps}
@@ -32,7 +32,7 @@ module _ {Shape Label : Type 0} (node : Shape → ℕ) (kin : Shape → Shape �
     each_in : (x : ℕ) → x < length system → Any (In x) start
     each_in x hx =
         let p = starts.each_in x hx in
-        let both = (all_at (λ (q : Start). (y : ℕ) → y < length system → (class_in m.blocks y ≡ q.block) ↔ (HasNode node value system y q.node × Has node value system (λ _. 2) y q.three)) start p.0 p.1 starts.exactly p.2 p.3 x hx).0 p.4 in
+        let both = (all_at (λ (q : Start). (y : ℕ) → y < length system → (class_in m.blocks y ≡ q.block) ↔ (HasNode node system y q.node × HasValue value system (λ _. 2) y q.three)) start p.0 p.1 starts.exactly p.2 p.3 x hx).0 p.4 in
         (p.0, p.1, p.2, p.3, (p.4, both.1, λ a at. ap (λ (b : Sorted Shape Label). node b.shape) (element_at system x a both.0.0 at both.0.1) ∙ both.0.2))
 
     zero_coarse : (t : ℕ) → class_in m.coarse t ≡ 0

@@ -16,7 +16,7 @@ use Rattle.refiner.specs.declared.history.Split.{Split}
 use Rattle.refiner.specs.declared.history.Start.{Start}
 use Rattle.refiner.specs.declared.progress.Progress.{Progress}
 use Rattle.refiner.specs.Grouping.{value_at, IsUnmarked, AreCut}
-use Rattle.refiner.specs.History.{IsStart, HasNode, Has}
+use Rattle.refiner.specs.History.{IsStart}
 use Rattle.refiner.specs.Ready.{IsBegun, IsReady, moment_at}
 use Rattle.refiner.specs.Making.{AreValues, AreByNodeAndValue, IsStartBlock, first_moment}
 use Rattle.refiner.proofs.Lists.{all_at, apart_same, pair_either, find_number, element_at}
