@@ -8,4 +8,5 @@ loop-b-preserved c =
     let m = c.members-members.ensures.members in
     let x = m.each 0 0 m.some in
     below_more _ _ c.loop-b.invariant
-    (contains_at c.args.blocks.now.block (get_or c.members-members.result.now 0 0) c.loop-b.b x.0 x.1)
+    (contains_at c.args.blocks.now.block (get_or c.members-members.result.now 0 0) c.loop-b.b x.0
+    x.1)

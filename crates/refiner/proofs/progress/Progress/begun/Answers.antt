@@ -16,6 +16,7 @@ returns c =
       none = λ e. c.in_ok-coarse.ensures.none e;
       one = λ h. c.in_ok-coarse.ensures.one h;
       numbers = c.in_ok-vec.ensures.items_if_clones_equal (λ y e. e) ∙ ap (λ k. replicate k 0) some;
-      waiting = c.in_ok-vec-3.ensures.items_if_clones_equal (λ y e. e) ∙ ap (λ k. replicate k 0) some;
+      waiting = c.in_ok-vec-3.ensures.items_if_clones_equal (λ y e. e)
+          ∙ ap (λ k. replicate k 0) some;
       scans = c.in_ok-vec-2.ensures.items_if_clones_equal (λ y e. e);
     })
