@@ -1,5 +1,5 @@
 -- One round more at the end of a history.
-use Rattle.std.proofs.Common.{◌≡◌, ◌+◌, ◌*◌, ◌<◌, ◌≤◌, ◌==◌, zero-add, get_or, ℕ, zero, suc, cond, List, [], ◌∷◌, ◌++◌, length, refl, sym, ◌∙◌, ap, subst, arith, add-zero, add_assoc}
+use Rattle.std.proofs.Common.{◌≡◌, ◌+◌, ◌*◌, ◌<◌, ◌≤◌, ◌==◌, zero-add, get_or, ℕ, suc, cond, List, [], ◌∷◌, ◌++◌, length, refl, sym, ◌∙◌, ap, subst, arith, add-zero, add_assoc}
 use Rattle.modalities.specs.declared.three.Three.{Three}
 use Rattle.refiner.specs.declared.history.Round.{Round}
 use Rattle.sorted_systems.specs.Systems.{Sorted, class_in}

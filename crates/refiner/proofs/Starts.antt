@@ -1,8 +1,7 @@
 -- The states split by node, and then by value.
-use Rattle.std.proofs.Common.{◌≡◌, ◌≢◌, ◌+◌, ◌<◌, ◌≤◌, ◌⊎◌, ℕ, zero, suc, List, [], ◌∷◌, ◌++◌, length, map, get_or, replicate, refl, sym, ◌∙◌, ap, subst, inl, inr, arith, Some, Vec, Global, ◌*◌}
-use Rattle.std.specs.Prelude.{All, AllPairs, Any, Contains, slice_get, slice_index_or}
+use Rattle.std.proofs.Common.{◌≡◌, ◌+◌, ◌<◌, ◌≤◌, ℕ, zero, suc, List, [], ◌∷◌, ◌++◌, length, map, get_or, replicate, refl, sym, ◌∙◌, ap, subst, inl, inr, arith, Vec, Global, ◌*◌}
+use Rattle.std.specs.Prelude.{All}
 use Rattle.std.proofs.lemmas.Bool.{cases_eq}
-use Rattle.std.proofs.lemmas.Bool.Decides.{eqb_tells}
 use Rattle.std.proofs.lemmas.List.{get_or_default, get_or_push, get_or_append_left, get_or-replicate, length-replicate}
 use Rattle.std.proofs.lemmas.Option.{slice_get_within}
 use Rattle.modalities.specs.declared.three.Three.{Three}
@@ -11,7 +10,6 @@ use Rattle.edge_store.specs.declared.edge.Edge.{Edge}
 use Rattle.edge_store.specs.Edges.{labels_from, targets_from}
 use Rattle.refinable_partition.specs.Blocks.{Blocks, block_at, states_of}
 use Rattle.sorted_systems.specs.Systems.{Sorted, IsState, system_from}
-use Rattle.refiner.specs.declared.history.Part.{Part}
 use Rattle.refiner.specs.declared.history.Split.{Split}
 use Rattle.refiner.specs.declared.history.Start.{Start}
 use Rattle.refiner.specs.declared.progress.Progress.{Progress}
@@ -19,7 +17,6 @@ use Rattle.refiner.specs.Grouping.{value_at, IsUnmarked, AreCut}
 use Rattle.refiner.specs.History.{IsStart}
 use Rattle.refiner.specs.Ready.{IsBegun, IsReady, moment_at}
 use Rattle.refiner.specs.Making.{AreValues, AreByNodeAndValue, IsStartBlock, first_moment}
-use Rattle.refiner.proofs.Lists.{all_at, apart_same, pair_either, find_number, element_at}
 use Rattle.refiner.proofs.Apart.{in_blocks_after, cut_together, cut_apart}
 use Rattle.refiner.proofs.RoundMade.{contains_at, state_at}
 

@@ -1,8 +1,7 @@
-use Rattle.std.proofs.Common.{◌≡◌, ◌+◌, ◌*◌, ◌<◌, ◌≤◌, ◌∙◌, ◌++◌, ◌∷◌, [], ℕ, List, length, get_or, ap, sym, refl, subst, arith}
+use Rattle.std.proofs.Common.{◌*◌, ◌≤◌, ◌∙◌, ◌++◌, ◌∷◌, [], length, get_or, ap, sym, refl, subst, arith}
 use Rattle.std.proofs.lemmas.List.{length_push}
-use Rattle.refinable_partition.specs.Blocks.{states_of}
 use Rattle.sorted_systems.specs.Systems.{system_from}
-use Rattle.refiner.specs.History.{Moment, IsRound, size_of}
+use Rattle.refiner.specs.History.{IsRound, size_of}
 use Rattle.refiner.specs.Ready.{moment_at}
 use Rattle.refiner.proofs.Append.{leads_on}
 use Rattle.refiner.proofs.Halves.{half_made}

@@ -1,10 +1,10 @@
-use Rattle.std.proofs.Common.{◌≡◌, ◌<◌, ◌≤◌, ◌^◌, ◌∙◌, ℕ, List, length, ap, sym, refl, subst, arith}
+use Rattle.std.proofs.Common.{◌≡◌, ◌<◌, ◌∙◌, length, ap, sym, refl, subst, arith}
 use Rattle.std.specs.Prelude.{Contains}
 use Rattle.std.proofs.lemmas.List.{length-replicate}
 use Rattle.refinable_partition.specs.Blocks.{states_of}
 use Rattle.sorted_systems.specs.Systems.{system_from}
 use Rattle.refiner.specs.History.{Moment}
-use Rattle.refiner.specs.Ready.{IsBegun, IsReady, moment_at}
+use Rattle.refiner.specs.Ready.{IsBegun, moment_at}
 use Rattle.refiner.proofs.Halves.{few_scans}
 use Rattle.refiner.proofs.RoundMade.{all_below}
 use Rattle.refiner.proofs.Starts.{moment_starts, ready_begun}

@@ -1,11 +1,10 @@
-use Rattle.std.proofs.Common.{◌≡◌, ◌+◌, ◌<◌, ◌∙◌, ℕ, List, [], ◌∷◌, ◌++◌, length, get_or, map, ap, sym, refl, subst, arith, Some}
+use Rattle.std.proofs.Common.{◌≡◌, ◌<◌, ◌∙◌, length, map, ap, sym, refl, subst, arith, Some}
 use Rattle.std.specs.Prelude.{slice_get}
 use Rattle.std.proofs.lemmas.Option.{slice_get_read, slice_get_within}
 use Rattle.std.proofs.lemmas.List.{length_push}
 use Rattle.iface.specs.Trits.{AreTrits}
-use Rattle.modalities.specs.declared.three.Three.{Three}
 use Rattle.edge_store.specs.Edges.{labels_from, targets_from}
-use Rattle.sorted_systems.specs.Systems.{Sorted, IsState, system_from}
+use Rattle.sorted_systems.specs.Systems.{IsState, system_from}
 use Rattle.refiner.specs.Making.{trit_in}
 use Rattle.refiner.proofs.States.{state_at_zero, are_trits, values_more, length-system_from}
 use Rattle.refiner.proofs.valuing.all_values.Goals as goal

@@ -1,4 +1,4 @@
-use Rattle.std.proofs.Common.{◌≡◌, ◌+◌, ◌*◌, ◌<◌, ◌≤◌, ℕ, length, get_or, map}
+use Rattle.std.proofs.Common.{◌≡◌, ◌+◌, ◌*◌, ◌<◌, ◌≤◌, ℕ, length, map}
 use Rattle.edge_store.specs.Edges.{first_of}
 use Rattle.sorted_systems.specs.Systems.{system_from, IsState, Sorted}
 use Rattle.refiner.specs.Grouping.{value_at}

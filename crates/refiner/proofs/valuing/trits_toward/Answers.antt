@@ -1,4 +1,4 @@
-use Rattle.std.proofs.Common.{◌≡◌, ◌+◌, ◌<◌, ◌∙◌, ℕ, [], ◌∷◌, ◌++◌, length, ap, sym, arith}
+use Rattle.std.proofs.Common.{◌<◌, ◌∙◌, [], ◌∷◌, ◌++◌, length, ap, arith}
 use Rattle.edge_store.specs.Edges.{targets_of, targets_from}
 use Rattle.refiner.specs.Making.{trit_in}
 use Rattle.refiner.proofs.States.{trits_more}

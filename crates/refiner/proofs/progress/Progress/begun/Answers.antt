@@ -1,6 +1,4 @@
-use Rattle.std.proofs.Common.{◌≡◌, ◌∙◌, ℕ, replicate, ap, sym}
-use Rattle.refinable_partition.specs.Blocks.{Blocks}
-use Rattle.refiner.specs.Ready.{IsBegun}
+use Rattle.std.proofs.Common.{◌≡◌, ◌∙◌, replicate, ap}
 use Rattle.refiner.proofs.progress.Progress.begun.Goals as goal
 
 pub returns : goal.returns
