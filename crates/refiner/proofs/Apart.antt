@@ -31,18 +31,23 @@ module _
   pub cut_together :
       (x y : ℕ) → x < states_of p → y < states_of p → block_at p x ≡ block_at p y →
       value_at values x ≡ value_at values y → block_at q x ≡ block_at q y
-  cut_together x y hx hy same value = elim (find_number (λ (s : Split). s.parent) splits (block_at p x)) [
-    | inl found ↦ (
-        let s : Split = found.1 in
-        let a : Any (WentTo values q x) s.parts.items = goes found.0 s x found.2 found.3 hx (sym found.4) in
-        let b : Any (WentTo values q y) s.parts.items = goes found.0 s y found.2 found.3 hy (sym same ∙ sym found.4) in
-        let one : a.1 ≡ b.1 = apart_same (λ (t : Part). t.three) s.parts.items (split_at found.0 s found.2 found.3).values_apart
-        a.0 b.0 a.1 b.1 a.2 b.2 a.3 b.3 (sym a.4.1 ∙ value ∙ b.4.1) in
-        a.4.0 ∙ ap (λ (t : Part). t.block) one ∙ sym b.4.0)
-    | inr none ↦
-        (cut.others_stay x hx (in_blocks x hx) none).0 ∙ same
-        ∙ sym (cut.others_stay y hy (in_blocks y hy) (subst (λ n. All (λ (s : Split). s.parent ≢ n) splits) same none)).0
-  ]
+  cut_together x y hx hy same value =
+      elim (find_number (λ (s : Split). s.parent) splits (block_at p x)) [
+        | inl found ↦ (
+            let s : Split = found.1 in
+            let a : Any (WentTo values q x) s.parts.items = goes found.0 s x found.2 found.3 hx
+            (sym found.4) in
+            let b : Any (WentTo values q y) s.parts.items = goes found.0 s y found.2 found.3 hy
+            (sym same ∙ sym found.4) in
+            let one : a.1 ≡ b.1 = apart_same (λ (t : Part). t.three) s.parts.items
+            (split_at found.0 s found.2 found.3).values_apart
+            a.0 b.0 a.1 b.1 a.2 b.2 a.3 b.3 (sym a.4.1 ∙ value ∙ b.4.1) in
+            a.4.0 ∙ ap (λ (t : Part). t.block) one ∙ sym b.4.0)
+        | inr none ↦
+            (cut.others_stay x hx (in_blocks x hx) none).0 ∙ same
+            ∙ sym (cut.others_stay y hy (in_blocks y hy)
+            (subst (λ n. All (λ (s : Split). s.parent ≢ n) splits) same none)).0
+      ]
 
   -- a member of a split block meets no member of another block
   clash :
@@ -51,11 +56,15 @@ module _
       All (λ (t : Split). t.parent ≢ block_at p y) splits → block_at q x ≡ block_at q y → ⊥
   clash k s x y hk ek parent hx hy none same =
       let a : Any (WentTo values q x) s.parts.items = goes k s x hk ek hx (sym parent) in
-      let number : a.1.block ≡ block_at p y = sym a.4.0 ∙ same ∙ (cut.others_stay y hy (in_blocks y hy) none).0 in
+      let number : a.1.block ≡ block_at p y = sym a.4.0 ∙ same
+      ∙ (cut.others_stay y hy (in_blocks y hy) none).0 in
       elim (eqb_tells a.1.block s.parent) [
-        | inl keeps ↦ all_at (λ (t : Split). t.parent ≢ block_at p y) splits k s none hk ek (sym keeps.1 ∙ number)
+        | inl keeps ↦ all_at (λ (t : Split). t.parent ≢ block_at p y) splits k s none hk ek
+            (sym keeps.1 ∙ number)
         | inr other ↦ (
-            let new = all_at (λ (t : Part). t.block ≢ s.parent → (p.count ≤ t.block) × (t.block < q.count)) s.parts.items a.0 a.1 (split_at k s hk ek).others_new a.2 a.3 other.1 in
+            let new = all_at (λ (t : Part). t.block ≢ s.parent → (p.count ≤ t.block) ×
+            (t.block < q.count)) s.parts.items a.0 a.1 (split_at k s hk ek).others_new a.2 a.3
+            other.1 in
             omega (arith, new.0, number, in_blocks y hy))
       ]
 
@@ -72,12 +81,14 @@ module _
       elim (pair_either AreApart splits cut.news_apart k l s t hk hl ek el) [
         | inl apart ↦ absurd (
             all_at (λ (u : Part). a.1.block ≢ u.block) t.parts.items b.0 b.1
-            (all_at (λ (w : Part). All (λ (u : Part). w.block ≢ u.block) t.parts.items) s.parts.items a.0 a.1 apart a.2 a.3)
+            (all_at (λ (w : Part). All (λ (u : Part). w.block ≢ u.block) t.parts.items)
+            s.parts.items a.0 a.1 apart a.2 a.3)
             b.2 b.3 meet)
         | inr rest ↦ elim rest [
           | inl apart ↦ absurd (
               all_at (λ (u : Part). b.1.block ≢ u.block) s.parts.items a.0 a.1
-              (all_at (λ (w : Part). All (λ (u : Part). w.block ≢ u.block) s.parts.items) t.parts.items b.0 b.1 apart b.2 b.3)
+              (all_at (λ (w : Part). All (λ (u : Part). w.block ≢ u.block) s.parts.items)
+              t.parts.items b.0 b.1 apart b.2 b.3)
               a.2 a.3 (sym meet))
           | inr equal ↦ equal
         ]
@@ -90,11 +101,16 @@ module _
     | inl found ↦ elim (find_number (λ (s : Split). s.parent) splits (block_at p y)) [
       | inl also ↦ (
           let s : Split = found.1 in
-          let equal : s ≡ also.1 = met found.0 also.0 s also.1 x y found.2 also.2 found.3 also.3 found.4 also.4 hx hy same in
-          let olds : block_at p x ≡ block_at p y = sym found.4 ∙ ap (λ (t : Split). t.parent) equal ∙ also.4 in
-          let a : Any (WentTo values q x) s.parts.items = goes found.0 s x found.2 found.3 hx (sym found.4) in
-          let b : Any (WentTo values q y) s.parts.items = goes found.0 s y found.2 found.3 hy (sym olds ∙ sym found.4) in
-          let one : a.1 ≡ b.1 = apart_same (λ (t : Part). t.block) s.parts.items (split_at found.0 s found.2 found.3).numbers_apart
+          let equal : s ≡ also.1 = met found.0 also.0 s also.1 x y found.2 also.2 found.3 also.3
+          found.4 also.4 hx hy same in
+          let olds : block_at p x ≡ block_at p y = sym found.4 ∙ ap (λ (t : Split). t.parent) equal
+          ∙ also.4 in
+          let a : Any (WentTo values q x) s.parts.items = goes found.0 s x found.2 found.3 hx
+          (sym found.4) in
+          let b : Any (WentTo values q y) s.parts.items = goes found.0 s y found.2 found.3 hy
+          (sym olds ∙ sym found.4) in
+          let one : a.1 ≡ b.1 = apart_same (λ (t : Part). t.block) s.parts.items
+          (split_at found.0 s found.2 found.3).numbers_apart
           a.0 b.0 a.1 b.1 a.2 b.2 a.3 b.3 (sym a.4.0 ∙ same ∙ b.4.0) in
           (olds, a.4.1 ∙ ap (λ (t : Part). t.three) one ∙ sym b.4.1))
       | inr none ↦ absurd (clash found.0 found.1 x y found.2 found.3 found.4 hx hy none same)
@@ -103,7 +119,8 @@ module _
       | inl also ↦ absurd (clash also.0 also.1 y x also.2 also.3 also.4 hy hx stays (sym same))
       | inr none ↦ (
           let here = cut.others_stay x hx (in_blocks x hx) stays in
-          let olds : block_at p x ≡ block_at p y = sym here.0 ∙ same ∙ (cut.others_stay y hy (in_blocks y hy) none).0 in
+          let olds : block_at p x ≡ block_at p y = sym here.0 ∙ same
+          ∙ (cut.others_stay y hy (in_blocks y hy) none).0 in
           (olds, sym (here.1 y hy (sym olds))))
     ]
   ]

@@ -1,12 +1,12 @@
 -- Splitters of at most half of their coarse blocks, and how often a state stands in one.
-use Rattle.std.proofs.Common.{◌≡◌, ◌≢◌, ◌+◌, ◌*◌, ◌<◌, ◌≤◌, ◌^◌, ◌==◌, ℕ, zero, suc, Bool, true, false, cond, List, [], ◌∷◌, ◌++◌, length, map, get_or, refl, sym, ◌∙◌, ap, subst, inl, inr, arith, zero-add, add-zero}
+use Rattle.std.proofs.Common.{◌≡◌, ◌≢◌, ◌+◌, ◌*◌, ◌<◌, ◌≤◌, ◌^◌, ◌==◌, ℕ, zero, suc, Bool, true, false, cond, List, [], ◌∷◌, length, map, get_or, refl, sym, ◌∙◌, ap, inl, inr, arith, zero-add}
 use Rattle.std.proofs.Math.Nat.{mul-le-mul_left, pow-succ'}
-use Rattle.std.proofs.lemmas.Bool.{eq-eqb, ne_eqb, cases_eq, cases_Bool}
-use Rattle.std.proofs.lemmas.Bool.Decides.{nat_tests, eqb_tells}
+use Rattle.std.proofs.lemmas.Bool.{eq-eqb, ne_eqb, cases_eq}
+use Rattle.std.proofs.lemmas.Bool.Decides.{nat_tests}
 use Rattle.std.proofs.lemmas.List.{get_or-map}
 use Rattle.std.proofs.lemmas.List.Sums.{sum_by-cons, count_by-le-length}
 use Rattle.modalities.specs.declared.three.Three.{Three}
-use Rattle.refinable_partition.specs.Blocks.{Blocks, block_at, states_of}
+use Rattle.refinable_partition.specs.Blocks.{Blocks, block_at}
 use Rattle.sorted_systems.specs.Systems.{Sorted, class_in}
 use Rattle.refiner.specs.declared.history.Round.{Round}
 use Rattle.refiner.specs.declared.history.Start.{Start}
@@ -20,7 +20,8 @@ size-cons : (x a : ℕ) (xs : List ℕ) → size_of (x ∷ xs) a ≡ cond (x == 
 size-cons x a xs = sum_by-cons (λ (v : ℕ). cond (v == a) 1 0) x xs
 
 size_yes : (x a : ℕ) (xs : List ℕ) → x ≡ a → size_of (x ∷ xs) a ≡ suc (size_of xs a)
-size_yes x a xs h = size-cons x a xs ∙ ap (λ t. cond t 1 0 + size_of xs a) (eq-eqb x a h) ∙ omega arith
+size_yes x a xs h = size-cons x a xs ∙ ap (λ t. cond t 1 0 + size_of xs a) (eq-eqb x a h)
+    ∙ omega arith
 
 size_no : (x a : ℕ) (xs : List ℕ) → x ≢ a → size_of (x ∷ xs) a ≡ size_of xs a
 size_no x a xs h =
@@ -39,7 +40,13 @@ size_within (x ∷ xs) [] a b len within = absurd (omega arith)
 size_within (x ∷ xs) (y ∷ ys) a b len within =
     let rest = size_within xs ys a b (omega arith) (λ k h e. within (suc k) (omega arith) e) in
     elim (cases_eq x a) [
-      | inl same ↦ omega (arith, size_yes x a xs same, size_yes y b ys (within 0 (omega arith) same), rest)
+      | inl same ↦ omega (
+        arith,
+        size_yes x a xs same,
+        size_yes y b ys
+            (within 0 (omega arith) same),
+        rest,
+      )
       | inr other ↦ omega (arith, size_no x a xs other, size_more y b ys, rest)
     ]
 
@@ -47,7 +54,8 @@ size_within (x ∷ xs) (y ∷ ys) a b len within =
 pub size_some : (xs : List ℕ) (x : ℕ) → x < length xs → 1 ≤ size_of xs (get_or xs x 0)
 size_some [] x h = absurd (omega arith)
 size_some (y ∷ ys) zero h = omega (arith, size_yes y y ys refl)
-size_some (y ∷ ys) (suc x) h = omega (arith, size_some ys x (omega arith), size_more y (get_or ys x 0) ys)
+size_some (y ∷ ys) (suc x) h =
+    omega (arith, size_some ys x (omega arith), size_more y (get_or ys x 0) ys)
 
 -- a half among the two partitions is a half of the moment
 pub half_made :
@@ -55,10 +63,12 @@ pub half_made :
     splitter ≡ block_at p x → coarse ≡ get_or numbers (block_at q x) 0 →
     2 * size_of p.block splitter ≤ size_of (map (λ c. get_or numbers c 0) q.block) coarse
 half_made p q numbers x splitter coarse half s c =
-    let within : size_of q.block (block_at q x) ≤ size_of (map (λ k. get_or numbers k 0) q.block) coarse =
+    let within : size_of q.block (block_at q x) ≤ size_of (map (λ k. get_or numbers k 0) q.block)
+    coarse =
     size_within q.block (map (λ k. get_or numbers k 0) q.block) (block_at q x) coarse
     (sym (length-map (λ k. get_or numbers k 0) q.block))
-    (λ k h e. get_or-map (λ b. get_or numbers b 0) q.block k 0 0 h ∙ ap (λ b. get_or numbers b 0) e ∙ sym c) in
+    (λ k h e. get_or-map (λ b. get_or numbers b 0) q.block k 0 0 h ∙ ap (λ b. get_or numbers b 0) e
+    ∙ sym c) in
     omega (arith, half, within, ap (size_of p.block) s)
 
 -- what a state's new coarse number tells
@@ -84,7 +94,8 @@ next_small :
 next_small b c splitter coarse inner outer n i o small = grind (arith, nat_tests)
 
 -- one scan more, and a coarse block of at most half
-doubled : (t : Bool) (n a b c : ℕ) → 2 ^ n * a ≤ b → cond t 2 1 * b ≤ c → 2 ^ (cond t 1 0 + n) * a ≤ c
+doubled : (t : Bool) (n a b c : ℕ) → 2 ^ n * a ≤ b → cond t 2 1 * b ≤ c →
+    2 ^ (cond t 1 0 + n) * a ≤ c
 doubled true n a b c low high =
     let e : 1 + n ≡ suc n = omega arith in
     rw (e, pow-succ' 2 n) (omega (arith, low, high))
@@ -113,8 +124,10 @@ module _
     next_at : At (number + 1) after
     next_at = (
       round.one_each,
-      ap length round.coarse_is ∙ length-coarse_after before.blocks before.coarse r (at.1 ∙ sym at.0) ∙ at.0,
-      λ t h. rw (next_is t h) (next_small _ _ r.splitter r.coarse r.inner r.outer number round.inner_is round.outer_is (at.2 t h)),
+      ap length round.coarse_is ∙ length-coarse_after before.blocks before.coarse r (at.1
+          ∙ sym at.0) ∙ at.0,
+      λ t h. rw (next_is t h) (next_small _ _ r.splitter r.coarse r.inner r.outer number
+          round.inner_is round.outer_is (at.2 t h)),
     )
 
     sized :
@@ -122,7 +135,8 @@ module _
         ((t : ℕ) → t < length system → class_in after.coarse t ≡ a → class_in xs t ≡ b) →
         size_of after.coarse a ≤ size_of xs b
     sized xs y a b len within =
-        size_within after.coarse xs a b (next_at.1 ∙ sym len) (λ k h e. within k (omega (arith, h, next_at.1)) e)
+        size_within after.coarse xs a b (next_at.1 ∙ sym len)
+        (λ k h e. within k (omega (arith, h, next_at.1)) e)
 
     -- the coarse block of a state of the splitter is at most half of what it was; no other grows
     shrinks :
@@ -134,27 +148,39 @@ module _
     shrinks half y hy = elim (cases_eq (class_in before.blocks y) r.splitter) [
       | inl in_ ↦ (
           let test = eq-eqb _ _ in_ in
-          let now : class_in after.coarse y ≡ r.inner = next_is y hy ∙ ap (λ t. cond t r.inner (cond (class_in before.coarse y == r.coarse) r.outer (class_in before.coarse y))) test in
+          let now : class_in after.coarse y ≡ r.inner = next_is y hy
+          ∙ ap (λ t. cond t r.inner (cond (class_in before.coarse y == r.coarse) r.outer
+          (class_in before.coarse y))) test in
           let small : size_of after.coarse r.inner ≤ size_of before.blocks r.splitter =
           sized before.blocks y r.inner r.splitter at.0
-          (λ t h e. to_inner _ _ r.splitter r.coarse r.inner r.outer number round.inner_is round.outer_is (at.2 t h) (sym (next_is t h) ∙ e)) in
+          (λ t h e. to_inner _ _ r.splitter r.coarse r.inner r.outer number round.inner_is
+          round.outer_is (at.2 t h) (sym (next_is t h) ∙ e)) in
           rw (test, now, round.splitter_within y hy in_) (omega (arith, small, half)))
       | inr out ↦ (
           let test = ne_eqb _ _ out in
-          let now : class_in after.coarse y ≡ cond (class_in before.coarse y == r.coarse) r.outer (class_in before.coarse y) =
-          next_is y hy ∙ ap (λ t. cond t r.inner (cond (class_in before.coarse y == r.coarse) r.outer (class_in before.coarse y))) test in
+          let now : class_in after.coarse y ≡ cond (class_in before.coarse y == r.coarse) r.outer
+          (class_in before.coarse y) =
+          next_is y hy ∙ ap
+          (λ t. cond t r.inner (cond (class_in before.coarse y == r.coarse) r.outer
+          (class_in before.coarse y))) test in
           elim (cases_eq (class_in before.coarse y) r.coarse) [
             | inl left ↦ (
-                let there : class_in after.coarse y ≡ r.outer = now ∙ ap (λ t. cond t r.outer (class_in before.coarse y)) (eq-eqb _ _ left) in
+                let there : class_in after.coarse y ≡ r.outer = now
+                ∙ ap (λ t. cond t r.outer (class_in before.coarse y)) (eq-eqb _ _ left) in
                 let small : size_of after.coarse r.outer ≤ size_of before.coarse r.coarse =
                 sized before.coarse y r.outer r.coarse at.1
-                (λ t h e. to_outer _ _ r.splitter r.coarse r.inner r.outer number round.inner_is round.outer_is (at.2 t h) (sym (next_is t h) ∙ e)) in
+                (λ t h e. to_outer _ _ r.splitter r.coarse r.inner r.outer number round.inner_is
+                round.outer_is (at.2 t h) (sym (next_is t h) ∙ e)) in
                 rw (test, there, left) (omega (arith, small)))
             | inr far ↦ (
-                let there : class_in after.coarse y ≡ class_in before.coarse y = now ∙ ap (λ t. cond t r.outer (class_in before.coarse y)) (ne_eqb _ _ far) in
-                let small : size_of after.coarse (class_in before.coarse y) ≤ size_of before.coarse (class_in before.coarse y) =
+                let there : class_in after.coarse y ≡ class_in before.coarse y = now
+                ∙ ap (λ t. cond t r.outer (class_in before.coarse y)) (ne_eqb _ _ far) in
+                let small : size_of after.coarse (class_in before.coarse y) ≤ size_of before.coarse
+                (class_in before.coarse y) =
                 sized before.coarse y (class_in before.coarse y) (class_in before.coarse y) at.1
-                (λ t h e. to_old _ _ r.splitter r.coarse r.inner r.outer number (class_in before.coarse y) round.inner_is round.outer_is (at.2 t h) (at.2 y hy) (sym (next_is t h) ∙ e)) in
+                (λ t h e. to_old _ _ r.splitter r.coarse r.inner r.outer number
+                (class_in before.coarse y) round.inner_is round.outer_is (at.2 t h) (at.2 y hy)
+                (sym (next_is t h) ∙ e)) in
                 rw (test, there) (omega (arith, small)))
           ])
     ]
@@ -172,11 +198,13 @@ module _
   all_shrink number m [] (r ∷ rounds) legal halves at y hy = absurd legal
   all_shrink number m (after ∷ later) [] legal halves at y hy = absurd legal
   all_shrink number m (after ∷ later) (r ∷ rounds) legal halves at y hy =
-      let rest = all_shrink (number + 1) after later rounds legal.1 halves.1 (next_at number m after r legal.0 at) y hy in (
+      let rest = all_shrink (number + 1) after later rounds legal.1 halves.1
+      (next_at number m after r legal.0 at) y hy in (
         rest.0,
         doubled (class_in m.blocks y == r.splitter) (scans_of after later rounds y)
             (size_of (last_moment after later).coarse (class_in (last_moment after later).coarse y))
-            (size_of after.coarse (class_in after.coarse y)) (size_of m.coarse (class_in m.coarse y))
+            (size_of after.coarse (class_in after.coarse y))
+            (size_of m.coarse (class_in m.coarse y))
             rest.1 (shrinks number m after r legal.0 at halves.0 y hy),
       )
 
@@ -191,7 +219,8 @@ module _
       ap length starts.one_coarse ∙ length-map (λ _. 0) system in
       let none : (t : ℕ) → t < length system → class_in first.coarse t ≤ 2 * 0 =
       λ t h. omega (arith, ap (λ cs. class_in cs t) starts.one_coarse, zero_at system t) in
-      let found = all_shrink 0 first later rounds legal halves (starts.one_each, coarse, none) y hy in
+      let found = all_shrink 0 first later rounds legal halves (starts.one_each, coarse, none) y
+      hy in
       let last : List ℕ = (last_moment first later).coarse in
       let some : 1 ≤ size_of last (class_in last y) = size_some last y (omega (arith, found.0)) in
       omega (

@@ -25,7 +25,17 @@ module _
     block = same2.block ∙ same.block;
     alike = λ x hx bx v y hy by_. elim (cases_Bool (mark_at q1 y)) [
       | inl t ↦ only y hy t
-      | inr f ↦ absurd (mixed ((x, rw n_same hx, blk x ∙ bx, marked x hx bx v), (y, rw n_same hy, blk y ∙ by_, f)))
+      | inr f ↦ absurd
+          (mixed (
+            (x, rw n_same hx, blk x ∙ bx, marked x hx bx v),
+            (
+              y,
+              rw n_same hy,
+              blk y
+                  ∙ by_,
+              f,
+            ),
+          ))
     ];
   }
 
@@ -42,11 +52,13 @@ module _
       (new : ℕ) → new ≡ q1.count → IsMixed q1 b → IsSplitOff q1 b q2 →
       IsParted values b three p q2 new
   parted new number mixed off =
-      let out : (x : ℕ) → x < states_of p → block_at p x ≡ b → mark_at q1 x ≡ false → block_at q2 x ≡ b =
+      let out : (x : ℕ) → x < states_of p → block_at p x ≡ b → mark_at q1 x ≡ false →
+      block_at q2 x ≡ b =
       λ x hx bx m.
       moves_to off x hx false m
       ∙ ap (λ t. cond (t && false) p.count (block_at p x)) (eq-eqb _ _ bx) ∙ bx in
-      let in_ : (x : ℕ) → x < states_of p → block_at p x ≡ b → mark_at q1 x ≡ true → block_at q2 x ≡ new =
+      let in_ : (x : ℕ) → x < states_of p → block_at p x ≡ b → mark_at q1 x ≡ true →
+      block_at q2 x ≡ new =
       λ x hx bx m.
       moves_to off x hx true m
       ∙ ap (λ t. cond (t && true) p.count (block_at p x)) (eq-eqb _ _ bx)
@@ -57,7 +69,8 @@ module _
         moved = λ x hx bx v. in_ x hx bx (marked x hx bx v);
         left = λ x hx nb.
             off.block x (rw n_same hx)
-            ∙ ap (λ t. cond (t && mark_at q1 x) q1.count (block_at q1 x)) (ne_eqb _ _ (λ e. nb (sym (blk x) ∙ e)))
+            ∙ ap (λ t. cond (t && mark_at q1 x) q1.count (block_at q1 x))
+            (ne_eqb _ _ (λ e. nb (sym (blk x) ∙ e)))
             ∙ blk x;
         either = λ x hx bx. elim (cases_Bool (mark_at q1 x)) [
           | inl t ↦ inr (in_ x hx bx t, only x hx t)

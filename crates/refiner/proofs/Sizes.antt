@@ -36,7 +36,12 @@ size_within (x ∷ xs) [] a c len lie = absurd (omega arith)
 size_within (x ∷ xs) (y ∷ ys) a c len lie =
     let rest = size_within xs ys a c (omega arith) (rest_lie x y xs ys a c lie) in
     elim (cases_eq x a) [
-      | inl same ↦ omega (arith, size_yes x a xs same, size_yes y c ys (lie 0 (omega arith) same), rest)
+      | inl same ↦ omega (
+        arith,
+        size_yes x a xs same,
+        size_yes y c ys (lie 0 (omega arith) same),
+        rest,
+      )
       | inr other ↦ omega (arith, size_no x a xs other, size_more y c ys, rest)
     ]
 
@@ -94,7 +99,12 @@ size_full (x ∷ xs) (y ∷ ys) a c len lie full (suc k) h e =
     let inner = rest_lie x y xs ys a c lie in
     let rest : size_in ys c ≤ size_in xs a =
     elim (cases_eq x a) [
-      | inl same ↦ omega (arith, size_yes x a xs same, size_yes y c ys (lie 0 (omega arith) same), full)
+      | inl same ↦ omega (
+        arith,
+        size_yes x a xs same,
+        size_yes y c ys (lie 0 (omega arith) same),
+        full,
+      )
       | inr other ↦ omega (arith, size_no x a xs other, size_more y c ys, full)
     ] in
     size_full xs ys a c (omega arith) inner rest k (omega arith) e

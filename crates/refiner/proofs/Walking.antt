@@ -84,7 +84,8 @@ module _
           ap (value_at values) (sym found.2) ∙ member.2,
         )
 
-    marked : (x : ℕ) → x < states_of q → block_at q x ≡ b → value_at values x ≡ three → mark_at q1 x ≡ true
+    marked : (x : ℕ) → x < states_of q → block_at q x ≡ b → value_at values x ≡ three →
+        mark_at q1 x ≡ true
     marked x hx bx v =
         let found = walking.rest.every x hx bx in
         elim (cases_lt found.0 to) [
@@ -95,8 +96,14 @@ module _
               let at : get_or (take (to - from) (drop from xs)) k 0 ≡ x =
               at_run xs from to k 0 l ∙ ap (λ i. get_or xs i 0) place ∙ found.3 in
               ap (mark_at q1) (sym at)
-              ∙ all k 0 (omega (arith, l, length_run xs from to (omega (arith, end.later)) end.within)))
-          | inr after ↦ absurd (end.others found.0 after found.2 (ap (value_at values) found.3 ∙ v ∙ is))
+              ∙ all k 0 (omega (
+                arith,
+                l,
+                length_run xs from to (omega (arith, end.later))
+                    end.within,
+              )))
+          | inr after ↦ absurd (end.others found.0 after found.2 (ap (value_at values) found.3 ∙ v
+              ∙ is))
         ]
 
     unmarked2 : IsUnmarked q2
@@ -128,8 +135,11 @@ module _
         let found = walking.rest.every x.0 x.1 x.2 in
         elim (cases_lt found.0 to) [
           | inl before ↦ elim (parted.either x.0 x.1 x.2) [
-            | inl stays ↦ absurd (stays.1 (ap (value_at values) (sym found.3) ∙ end.alike found.0 found.1 before ∙ sym is))
-            | inr goes ↦ absurd (omega (arith, goes.0, x.3, parted.number, hb, walking.cutting.grown))
+            | inl stays ↦
+                absurd (stays.1 (ap (value_at values) (sym found.3)
+                ∙ end.alike found.0 found.1 before ∙ sym is))
+            | inr goes ↦ absurd
+                (omega (arith, goes.0, x.3, parted.number, hb, walking.cutting.grown))
           ]
           | inr after ↦ omega (arith, after, found.2)
         ]
@@ -154,8 +164,11 @@ module _
           elim (cases_lt found.0 to) [
             | inr after ↦ (found.0, after, found.2, found.3)
             | inl before ↦ elim (parted.either x hxq was) [
-              | inl stays ↦ absurd (stays.1 (ap (value_at values) (sym found.3) ∙ end.alike found.0 found.1 before ∙ sym is))
-              | inr goes ↦ absurd (omega (arith, goes.0, bx, parted.number, hb, walking.cutting.grown))
+              | inl stays ↦
+                  absurd (stays.1 (ap (value_at values) (sym found.3)
+                  ∙ end.alike found.0 found.1 before ∙ sym is))
+              | inr goes ↦ absurd
+                  (omega (arith, goes.0, bx, parted.number, hb, walking.cutting.grown))
             ]
           ]);
     }
@@ -165,7 +178,8 @@ module _
     none_left whole here =
         let next = walking.rest.each to (omega (arith, end.later)) here in
         end.others to (omega arith) here
-        (whole.alike (get_or xs from 0) first.0 first.1 (sym is) (get_or xs to 0) next.0 next.1 ∙ is)
+        (whole.alike (get_or xs from 0) first.0 first.1 (sym is) (get_or xs to 0) next.0 next.1
+        ∙ is)
 
     pub walking_step :
         (r : Option ℕ) → (IsSome r ↔ IsMixed q1 b) → IfSome r (λ new. new ≡ q1.count) →
@@ -178,8 +192,14 @@ module _
         let whole : IsWhole values b three q q2 = off None mixed number split same2 in
         let out : List Part = parts ++ record { block = block; three = three } ∷ [] in
         subst (λ t. MatchBool t (IsWalking values b p q2 xs to out) (IsCut values b p q2 out))
-        (sym (le-ltb to (length xs) (elim (cases_lt to (length xs)) [ inl less ↦ absurd (none_left whole less) | inr more ↦ more ])))
-        (subst (λ k. IsCut values b p q2 (parts ++ record { block = k; three = three } ∷ [])) (sym be)
+        (sym (le-ltb to (length xs)
+        (elim (cases_lt to (length xs)) [
+          | inl less ↦ absurd (none_left whole less)
+          | inr more ↦
+              more
+        ])))
+        (subst (λ k. IsCut values b p q2 (parts ++ record { block = k; three = three } ∷ []))
+        (sym be)
         (cut_ends values b p q q2 parts walking.cutting three hb (get_or xs from 0) first.0 first.1
         (sym is) (states2 ∙ n_same) unmarked2 whole))
     walking_step (Some new) mixed number split same2 block be =
@@ -188,8 +208,11 @@ module _
         subst (λ t. MatchBool t (IsWalking values b p q2 xs to out) (IsCut values b p q2 out))
         (sym (lt-ltb to (length xs) (more_left new parted)))
         (record {
-          cutting = subst (λ k. IsCutting values b p q2 (parts ++ record { block = k; three = three } ∷ [])) (sym be)
-              (cutting_more values b p q q2 parts walking.cutting three hb (get_or xs from 0) first.0 first.1
+          cutting = subst
+              (λ k. IsCutting values b p q2 (parts ++ record { block = k; three = three } ∷ []))
+              (sym be)
+              (cutting_more values b p q q2 parts walking.cutting three hb (get_or xs from 0)
+              first.0 first.1
               (sym is) (states2 ∙ n_same) unmarked2 new parted);
           rest = rest_left new parted;
         })
