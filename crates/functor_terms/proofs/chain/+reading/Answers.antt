@@ -16,7 +16,7 @@ chain-returns-in_err-part t c =
     let room : length c.parts.parts.items < 256 = omega (arith, c.parts-test.true, c.len.ensures) in
     let p = err_from_is_err_and c.from_residual.result c.from_residual.ensures.1 in
     rw (p.1, p.2) (gives-err c.in_err-part.field-0.0 (item_of c.args.link (inside_at c.args.room) c.args.depth c.parts.left) (chain_of c.args.link (inside_at c.args.room) c.args.depth c.args.ahead)
-        (chain-fails c.args.link (inside_at c.args.room) c.args.depth c.args.ahead c.parts.parts.items c.parts.left c.parts.nodes c.parts.invariant room) c.in_err-part.ensures)
+    (chain-fails c.args.link (inside_at c.args.room) c.args.depth c.args.ahead c.parts.parts.items c.parts.left c.parts.nodes c.parts.invariant room) c.in_err-part.ensures)
 
 pub chain-overflow_add-nodes : goal.chain-overflow_add-nodes
 chain-overflow_add-nodes t c =
@@ -57,7 +57,7 @@ group-returns-in_err-inner t c =
     let left : 0 < c.args.room = omega (arith, c.if-room-eq0.false) in
     let p = err_from_is_err_and c.from_residual.result c.from_residual.ensures.1 in
     rw (p.1, p.2) (gives-err c.in_err-inner.field-0.0 (sum_at (inside_at (c.args.room - 1)) c.args.depth c.args.ahead) (group_at (inside_at c.args.room c.args.depth) c.args.ahead)
-        (group-fails c.args.room c.args.depth c.args.ahead left) c.in_err-inner.ensures)
+    (group-fails c.args.room c.args.depth c.args.ahead left) c.in_err-inner.ensures)
 
 pub group-returns-in-Ok : goal.group-returns-in-Ok
 group-returns-in-Ok t c =
@@ -73,7 +73,7 @@ pub power-returns-in_err-base : goal.power-returns-in_err-base
 power-returns-in_err-base t c =
     let p = err_from_is_err_and c.from_residual.result c.from_residual.ensures.1 in
     rw (p.1, p.2) (gives-err c.in_err-base.field-0.0 (prefix_at (inside_at c.args.room) c.args.depth c.args.ahead) (power_at (inside_at c.args.room) c.args.depth c.args.ahead)
-        (power-fails (inside_at c.args.room) c.args.depth c.args.ahead) c.in_err-base.ensures)
+    (power-fails (inside_at c.args.room) c.args.depth c.args.ahead) c.in_err-base.ensures)
 
 pub power-returns : goal.power-returns
 power-returns t c =
@@ -93,8 +93,8 @@ prefix-returns-in_err-inner-in-Some-prefix_of t c =
     let more : 0 < c.args.depth = omega (arith, c.if-depth-eq0.false) in
     let p = err_from_is_err_and c.from_residual.result c.from_residual.ensures.1 in
     rw (p.1, p.2) (gives-err c.in_err-inner-in-Some-prefix_of.field-0.0 (prefix_at (inside_at c.args.room) (c.args.depth - 1) (others c.args.ahead)) (prefix_at (inside_at c.args.room) c.args.depth c.args.ahead)
-        (prefix-fails (inside_at c.args.room) c.args.depth c.args.ahead c.in-Some.sign.now (others c.args.ahead) c.in-Some.ensures.0 c.in-Some-prefix_of.node letter more)
-        (subst (λ (l : List Sign). Gives (Err c.in_err-inner-in-Some-prefix_of.field-0.0) (prefix_at (inside_at c.args.room) (c.args.depth - 1) l)) c.others.ensures c.in_err-inner-in-Some-prefix_of.ensures))
+    (prefix-fails (inside_at c.args.room) c.args.depth c.args.ahead c.in-Some.sign.now (others c.args.ahead) c.in-Some.ensures.0 c.in-Some-prefix_of.node letter more)
+    (subst (λ (l : List Sign). Gives (Err c.in_err-inner-in-Some-prefix_of.field-0.0) (prefix_at (inside_at c.args.room) (c.args.depth - 1) l)) c.others.ensures c.in_err-inner-in-Some-prefix_of.ensures))
 
 pub prefix-returns-in_ok-inner-in-Some-prefix_of : goal.prefix-returns-in_ok-inner-in-Some-prefix_of
 prefix-returns-in_ok-inner-in-Some-prefix_of t c =

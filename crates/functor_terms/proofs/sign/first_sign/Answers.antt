@@ -22,18 +22,16 @@ sign_outside-requires-clause-no_blank c =
 
 pub returns-then-braces : goal.returns-then-braces
 returns-then-braces c =
-    let behind : c.split_at.result.1.now ≡ drop (prefix_len is_blank c.args.text.now) c.args.text.now = c.split_at.ensures.back ∙ ap (λ n. drop n c.args.text.now) c.blank_len.ensures.len in
-    (
+    let behind : c.split_at.result.1.now ≡ drop (prefix_len is_blank c.args.text.now) c.args.text.now = c.split_at.ensures.back ∙ ap (λ n. drop n c.args.text.now) c.blank_len.ensures.len in (
       signs-blanks c.args.braces c.args.text.now ∙ ap (signs_at (place_in c.args.braces)) (sym behind)
-      ∙ ap (λ b. signs_at (place_in b) c.split_at.result.1.now) c.if-braces.true ∙ c.sign_inside.ensures.tokens,
+          ∙ ap (λ b. signs_at (place_in b) c.split_at.result.1.now) c.if-braces.true ∙ c.sign_inside.ensures.tokens,
       c.sign_inside.ensures.token,
     )
 
 pub returns-else-braces : goal.returns-else-braces
 returns-else-braces c =
-    let behind : c.split_at.result.1.now ≡ drop (prefix_len is_blank c.args.text.now) c.args.text.now = c.split_at.ensures.back ∙ ap (λ n. drop n c.args.text.now) c.blank_len.ensures.len in
-    (
+    let behind : c.split_at.result.1.now ≡ drop (prefix_len is_blank c.args.text.now) c.args.text.now = c.split_at.ensures.back ∙ ap (λ n. drop n c.args.text.now) c.blank_len.ensures.len in (
       signs-blanks c.args.braces c.args.text.now ∙ ap (signs_at (place_in c.args.braces)) (sym behind)
-      ∙ ap (λ b. signs_at (place_in b) c.split_at.result.1.now) c.if-braces.false ∙ c.sign_outside.ensures.tokens,
+          ∙ ap (λ b. signs_at (place_in b) c.split_at.result.1.now) c.if-braces.false ∙ c.sign_outside.ensures.tokens,
       c.sign_outside.ensures.token,
     )
