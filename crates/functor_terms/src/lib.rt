@@ -23,9 +23,12 @@ mod part;
 mod powers;
 mod reading;
 mod sign;
+#[cfg(test)]
+mod tables;
 mod term;
 #[cfg(test)]
 mod tests;
+mod text;
 
 pub use fault::{PartFault, TermFault};
 pub use labels::Labels;
@@ -34,3 +37,4 @@ pub use node::{Branch, LabelSet, Node};
 pub use part::TermPart;
 pub use reading::read_term;
 pub use term::Term;
+pub use text::term_text;
