@@ -13,36 +13,47 @@ use Rattle.functor_terms.proofs.LabelLaws.{labels-sound}
 use Rattle.functor_terms.proofs.PartLaws.{labels-are}
 
 -- labels that were read are labels
-pub labels-bounded : (ts : List Sign) (labels : LabelSet) (rest : List Sign) → labels_at ts ≡ Some (labels, rest) → AreLabels labels
-labels-bounded ts labels rest e = let found = labels-sound ts labels rest e in labels-are found.front labels found.spelled
+pub labels-bounded : (ts : List Sign) (labels : LabelSet) (rest : List Sign)
+    → labels_at ts ≡ Some (labels, rest) → AreLabels labels
+labels-bounded ts labels rest e = let found = labels-sound ts labels rest e in
+    labels-are found.front labels found.spelled
 
 -- one turn of the loop that reads exponents
-module _ (whole : Option (Part × List Sign)) (n : ℕ) (base : Part) (ts : List Sign) (kept : powers_from n base ts ≡ whole) where
+module _ (whole : Option (Part × List Sign)) (n : ℕ) (base : Part) (ts : List Sign)
+    (kept : powers_from n base ts ≡ whole) where
   pub powers-out : n ≡ 0 → whole ≡ None
   unfolding powers_from
   powers-out e = sym kept ∙ ap (λ m. powers_from m base ts) e
 
   module _ (m : ℕ) (more : n ≡ suc m) where
-    step : (r : Option (List Sign)) → behind_sign is_caret ts ≡ r → whole ≡ option_map_or (λ behind. option_and_then (λ p. powers_from m p.0 p.1) (raised base behind)) r (Some (base, ts))
+    step : (r : Option (List Sign)) → behind_sign is_caret ts ≡ r
+        → whole ≡ option_map_or (λ behind. option_and_then (λ p. powers_from m p.0 p.1)
+        (raised base behind)) r (Some (base, ts))
     unfolding powers_from
     step r e =
         sym kept ∙ ap (λ k. powers_from k base ts) more
-        ∙ ap (λ q. option_map_or (λ behind. option_and_then (λ p. powers_from m p.0 p.1) (raised base behind)) q (Some (base, ts))) e
+        ∙ ap (λ q. option_map_or (λ behind. option_and_then (λ p. powers_from m p.0 p.1)
+        (raised base behind)) q (Some (base, ts))) e
 
-    pub powers-end : behind_sign is_caret ts ≡ None → (same : List Sign) → same ≡ ts → whole ≡ Some (base, same)
+    pub powers-end : behind_sign is_caret ts ≡ None → (same : List Sign) → same ≡ ts
+        → whole ≡ Some (base, same)
     powers-end e same is = step None e ∙ (λ i. Some (base, sym is i))
 
     module _ (behind : List Sign) (caret : behind_sign is_caret ts ≡ Some behind) where
       pub powers-fail : raised base behind ≡ None → whole ≡ None
       powers-fail e = step (Some behind) caret ∙ ap (option_and_then (λ p. powers_from m p.0 p.1)) e
 
-      pub powers-more : (next : Part) (rest : List Sign) → raised base behind ≡ Some (next, rest) → powers_from m next rest ≡ whole
-      powers-more next rest e = sym (step (Some behind) caret ∙ ap (option_and_then (λ p. powers_from m p.0 p.1)) e)
+      pub powers-more : (next : Part) (rest : List Sign) → raised base behind ≡ Some (next, rest)
+          → powers_from m next rest ≡ whole
+      powers-more next rest e = sym (step (Some behind) caret
+          ∙ ap (option_and_then (λ p. powers_from m p.0 p.1)) e)
 
-inside-room : (room d : ℕ) (ts : List Sign) → 0 < room → inside_at room d ts ≡ sum_at (inside_at (room - 1)) d ts
+inside-room : (room d : ℕ) (ts : List Sign) → 0 < room
+    → inside_at room d ts ≡ sum_at (inside_at (room - 1)) d ts
 unfolding inside_at
 inside-room zero d ts h = absurd (omega (arith, h))
-inside-room (suc n) d ts h = let same : n ≡ suc n - 1 = omega arith in ap (λ m. sum_at (inside_at m) d ts) same
+inside-room (suc n) d ts h = let same : n ≡ suc n - 1 = omega arith in
+    ap (λ m. sum_at (inside_at m) d ts) same
 
 -- what stands in parentheses
 module _ (room d : ℕ) (ts : List Sign) where
@@ -51,20 +62,28 @@ module _ (room d : ℕ) (ts : List Sign) where
   group-shut e = ap (λ m. group_at (inside_at m d) ts) e
 
   module _ (open_left : 0 < room) where
-    entered : (r : Option (Part × List Sign)) → sum_at (inside_at (room - 1)) d ts ≡ r → group_at (inside_at room d) ts ≡ option_and_then (λ p. ended is_close p.0 p.1) r
-    entered r e = ap (option_and_then (λ p. ended is_close p.0 p.1)) (inside-room room d ts open_left ∙ e)
+    entered : (r : Option (Part × List Sign)) → sum_at (inside_at (room - 1)) d ts ≡ r
+        → group_at (inside_at room d) ts ≡ option_and_then (λ p. ended is_close p.0 p.1) r
+    entered r e = ap (option_and_then (λ p. ended is_close p.0 p.1))
+        (inside-room room d ts open_left ∙ e)
 
-    pub group-fails : sum_at (inside_at (room - 1)) d ts ≡ None → group_at (inside_at room d) ts ≡ None
+    pub group-fails : sum_at (inside_at (room - 1)) d ts ≡ None
+        → group_at (inside_at room d) ts ≡ None
     group-fails e = entered None e
 
-    module _ (x : Part) (behind : List Sign) (read : sum_at (inside_at (room - 1)) d ts ≡ Some (x, behind)) where
-      at_end : (r : Option (List Sign)) → behind_sign is_close behind ≡ r → group_at (inside_at room d) ts ≡ option_map {T = List Sign} {U = Part × List Sign} (λ rest. (x, rest)) r
-      at_end r e = entered (Some (x, behind)) read ∙ ap (λ q. option_map {T = List Sign} {U = Part × List Sign} (λ rest. (x, rest)) q) e
+    module _ (x : Part) (behind : List Sign) (read : sum_at (inside_at (room - 1)) d ts
+        ≡ Some (x, behind)) where
+      at_end : (r : Option (List Sign)) → behind_sign is_close behind ≡ r
+          → group_at (inside_at room d) ts ≡ option_map {T = List Sign} {U = Part × List Sign}
+          (λ rest. (x, rest)) r
+      at_end r e = entered (Some (x, behind)) read
+          ∙ ap (λ q. option_map {T = List Sign} {U = Part × List Sign} (λ rest. (x, rest)) q) e
 
       pub group-open : behind_sign is_close behind ≡ None → group_at (inside_at room d) ts ≡ None
       group-open e = at_end None e
 
-      pub group-ends : (rest : List Sign) → behind_sign is_close behind ≡ Some rest → group_at (inside_at room d) ts ≡ Some (x, rest)
+      pub group-ends : (rest : List Sign) → behind_sign is_close behind ≡ Some rest
+          → group_at (inside_at room d) ts ≡ Some (x, rest)
       group-ends rest e = at_end (Some rest) e
 
 module _ (inside : ℕ → Reads Part) (d : ℕ) (ts : List Sign) where
@@ -73,7 +92,8 @@ module _ (inside : ℕ → Reads Part) (d : ℕ) (ts : List Sign) where
   unfolding power_at
   power-fails e = ap (option_and_then (λ p. powers_from depth_limit p.0 p.1)) e
 
-  pub power-is : (base : Part) (rest : List Sign) → prefix_at inside d ts ≡ Some (base, rest) → power_at inside d ts ≡ powers_from depth_limit base rest
+  pub power-is : (base : Part) (rest : List Sign) → prefix_at inside d ts ≡ Some (base, rest)
+      → power_at inside d ts ≡ powers_from depth_limit base rest
   unfolding power_at
   power-is base rest e = ap (option_and_then (λ p. powers_from depth_limit p.0 p.1)) e
 
@@ -83,21 +103,31 @@ unfolding prefix_at
 prefix-none inside zero = refl
 prefix-none inside (suc d) = refl
 
-prefix-first : (inside : ℕ → Reads Part) (d : ℕ) (t : Sign) (ts : List Sign) → 0 < d → prefix_at inside d (t ∷ ts) ≡ option_map_or (λ node. over_read node (prefix_at inside (d - 1) ts)) (prefix_of t) (base_at (inside d) (t ∷ ts))
+prefix-first : (inside : ℕ → Reads Part) (d : ℕ) (t : Sign) (ts : List Sign) → 0 < d
+    → prefix_at inside d (t ∷ ts) ≡ option_map_or
+    (λ node. over_read node (prefix_at inside (d - 1) ts)) (prefix_of t)
+    (base_at (inside d) (t ∷ ts))
 unfolding prefix_at
 prefix-first inside zero t ts h = absurd (omega (arith, h))
 prefix-first inside (suc d) t ts h =
     let same : d ≡ suc d - 1 = omega arith in
-    ap (λ n. option_map_or (λ node. over_read node (prefix_at inside n ts)) (prefix_of t) (base_at (inside (suc d)) (t ∷ ts))) same
+    ap (λ n. option_map_or (λ node. over_read node (prefix_at inside n ts)) (prefix_of t)
+    (base_at (inside (suc d)) (t ∷ ts))) same
 
-prefix-other : (inside : ℕ → Reads Part) (d : ℕ) (t : Sign) (ts : List Sign) → prefix_of t ≡ None → prefix_at inside d (t ∷ ts) ≡ base_at (inside d) (t ∷ ts)
+prefix-other : (inside : ℕ → Reads Part) (d : ℕ) (t : Sign) (ts : List Sign) → prefix_of t ≡ None
+    → prefix_at inside d (t ∷ ts) ≡ base_at (inside d) (t ∷ ts)
 unfolding prefix_at
-prefix-other inside zero t ts e = ap (λ r. option_map_or (λ node. None) r (base_at (inside zero) (t ∷ ts))) e
-prefix-other inside (suc d) t ts e = ap (λ r. option_map_or (λ node. over_read node (prefix_at inside d ts)) r (base_at (inside (suc d)) (t ∷ ts))) e
+prefix-other inside zero t ts e =
+    ap (λ r. option_map_or (λ node. None) r (base_at (inside zero) (t ∷ ts))) e
+prefix-other inside (suc d) t ts e =
+    ap (λ r. option_map_or (λ node. over_read node (prefix_at inside d ts)) r
+    (base_at (inside (suc d)) (t ∷ ts))) e
 
-prefix-zero : (inside : ℕ → Reads Part) (t : Sign) (ts : List Sign) (node : Node) → prefix_of t ≡ Some node → prefix_at inside 0 (t ∷ ts) ≡ None
+prefix-zero : (inside : ℕ → Reads Part) (t : Sign) (ts : List Sign) (node : Node)
+    → prefix_of t ≡ Some node → prefix_at inside 0 (t ∷ ts) ≡ None
 unfolding prefix_at
-prefix-zero inside t ts node e = ap (λ r. option_map_or (λ node. None) r (base_at (inside zero) (t ∷ ts))) e
+prefix-zero inside t ts node e =
+    ap (λ r. option_map_or (λ node. None) r (base_at (inside zero) (t ∷ ts))) e
 
 module _ (inside : ℕ → Reads Part) (d : ℕ) (ts : List Sign) where
   pub prefix-empty : ts ≡ [] → prefix_at inside d ts ≡ None
@@ -105,14 +135,18 @@ module _ (inside : ℕ → Reads Part) (d : ℕ) (ts : List Sign) where
 
   module _ (t : Sign) (rest : List Sign) (is : ts ≡ t ∷ rest) where
     pub prefix-alone : prefix_of t ≡ None → prefix_at inside d ts ≡ base_at (inside d) ts
-    prefix-alone e = ap (prefix_at inside d) is ∙ prefix-other inside d t rest e ∙ sym (ap (base_at (inside d)) is)
+    prefix-alone e = ap (prefix_at inside d) is ∙ prefix-other inside d t rest e
+        ∙ sym (ap (base_at (inside d)) is)
 
     module _ (node : Node) (letter : prefix_of t ≡ Some node) where
       pub prefix-deep : d ≡ 0 → prefix_at inside d ts ≡ None
       prefix-deep e = (λ i. prefix_at inside (e i) (is i)) ∙ prefix-zero inside t rest node letter
 
-      pub prefix-over : 0 < d → prefix_at inside d ts ≡ over_read node (prefix_at inside (d - 1) rest)
-      prefix-over h = ap (prefix_at inside d) is ∙ prefix-first inside d t rest h ∙ ap (λ r. option_map_or (λ n. over_read n (prefix_at inside (d - 1) rest)) r (base_at (inside d) (t ∷ rest))) letter
+      pub prefix-over : 0 < d → prefix_at inside d ts
+          ≡ over_read node (prefix_at inside (d - 1) rest)
+      prefix-over h = ap (prefix_at inside d) is ∙ prefix-first inside d t rest h
+          ∙ ap (λ r. option_map_or (λ n. over_read n (prefix_at inside (d - 1) rest)) r
+          (base_at (inside d) (t ∷ rest))) letter
 
       pub prefix-fails : 0 < d → prefix_at inside (d - 1) rest ≡ None → prefix_at inside d ts ≡ None
       prefix-fails h e = prefix-over h ∙ ap (over_read node) e

@@ -16,11 +16,14 @@ module _ (ts : List Sign) where
   part-none e = ap whole e
 
   -- a fault of grammar says that no part is read
-  pub part-err : (e : TermFault) → Gives {A = Part} (Err e) (sum_at (inside_at open_limit) depth_limit ts) → ◌≡◌ {A = Result Part TermFault} (Err e) (Err Grammar) → part_at ts ≡ None
+  pub part-err : (e : TermFault) → Gives {A = Part} (Err e)
+      (sum_at (inside_at open_limit) depth_limit ts)
+      → ◌≡◌ {A = Result Part TermFault} (Err e) (Err Grammar) → part_at ts ≡ None
   part-err Grammar given is = part-none given
   part-err NoMemory given is = cc
 
-  module _ (x : Part) (rest : List Sign) (read : sum_at (inside_at open_limit) depth_limit ts ≡ Some (x, rest)) where
+  module _ (x : Part) (rest : List Sign) (read : sum_at (inside_at open_limit) depth_limit ts
+      ≡ Some (x, rest)) where
     -- no token is left
     pub part-is : rest ≡ [] → part_at ts ≡ Some x
     unfolding part_at
@@ -32,10 +35,14 @@ module _ (ts : List Sign) where
     part-more t more e = ap whole (read ∙ ap (λ (l : List Sign). Some (x, l)) e)
 
 -- where no part is read, no term is spelled
-pub term-err : (text : List ℕ) (ts : List Sign) (e : TermFault) → ts ≡ signs text → (◌≡◌ {A = Result Part TermFault} (Err e) (Err Grammar) → part_at ts ≡ None) → ◌≡◌ {A = Result Nodes TermFault} (Err e) (Err Grammar) → (t : Nodes) → SpellsTerm text t → ⊥
+pub term-err : (text : List ℕ) (ts : List Sign) (e : TermFault) → ts ≡ signs text
+    → (◌≡◌ {A = Result Part TermFault} (Err e) (Err Grammar) → part_at ts ≡ None)
+    → ◌≡◌ {A = Result Nodes TermFault} (Err e) (Err Grammar) → (t : Nodes) → SpellsTerm text t → ⊥
 term-err text ts Grammar is none e = none-spelled text (ap part_at (sym is) ∙ none refl)
 term-err text ts NoMemory is none e = cc
 
 -- the term of the part that was read is spelled
-pub term-is : (text : List ℕ) (ts : List Sign) (x : Part) (t : Nodes) → ts ≡ signs text → part_at ts ≡ Some x → t ≡ placed 0 x.0 → SpellsTerm text t
-term-is text ts x t is read made = subst (SpellsTerm text) (sym made) (term-spelled text x (ap part_at (sym is) ∙ read))
+pub term-is : (text : List ℕ) (ts : List Sign) (x : Part) (t : Nodes) → ts ≡ signs text
+    → part_at ts ≡ Some x → t ≡ placed 0 x.0 → SpellsTerm text t
+term-is text ts x t is read made = subst (SpellsTerm text) (sym made)
+    (term-spelled text x (ap part_at (sym is) ∙ read))

@@ -11,38 +11,58 @@ use Rattle.functor_terms.proofs.GiveLaws.{joins-new, joins-old, joins-inj}
 use Rattle.functor_terms.proofs.LoopLaws.{loop-out, loop-fails, loop-refuses, loop-ends, loop-goes}
 
 -- no words yet
-pub words-none : (ts : List Sign) (words : List (List ℕ)) → words ≡ [] → items_from word_at is_comma is_new_name (label_limit - length words) words ts ≡ words_at ts
+pub words-none : (ts : List Sign) (words : List (List ℕ)) → words ≡ []
+    → items_from word_at is_comma is_new_name (label_limit - length words) words ts ≡ words_at ts
 unfolding words_at
-words-none ts words e = ap (λ (l : List (List ℕ)). items_from word_at is_comma is_new_name (label_limit - length l) l ts) e
+words-none ts words e =
+    ap (λ (l : List (List ℕ)). items_from word_at is_comma is_new_name (label_limit - length l) l
+    ts) e
 
-module _ (ts : List Sign) (words : List (List ℕ)) (left : List Sign) (kept : items_from word_at is_comma is_new_name (label_limit - length words) words left ≡ words_at ts) where
+module _ (ts : List Sign) (words : List (List ℕ)) (left : List Sign)
+    (kept : items_from word_at is_comma is_new_name (label_limit - length words) words left
+    ≡ words_at ts) where
   pub words-out : label_limit ≤ length words → words_at ts ≡ None
-  words-out full = loop-out word_at is_comma is_new_name (words_at ts) (label_limit - length words) words left kept (let full' : 65536 ≤ length words = full in omega (arith, full'))
+  words-out full = loop-out word_at is_comma is_new_name (words_at ts) (label_limit - length words)
+      words left kept (let full' : 65536 ≤ length words = full in omega (arith, full'))
 
   module _ (room : length words < label_limit) where
     next : label_limit - length words ≡ suc (label_limit - (length words + 1))
     next = let room' : length words < 65536 = room in omega (arith, room')
 
     pub words-fails : word_at left ≡ None → words_at ts ≡ None
-    words-fails e = loop-fails word_at is_comma is_new_name (words_at ts) (label_limit - length words) words left kept (label_limit - (length words + 1)) next e
+    words-fails e = loop-fails word_at is_comma is_new_name (words_at ts)
+        (label_limit - length words) words left kept (label_limit - (length words + 1)) next e
 
     module _ (word : List ℕ) (rest : List Sign) (read : word_at left ≡ Some (word, rest)) where
       pub words-inj : is_inj word ≡ true → words_at ts ≡ None
-      words-inj e = loop-refuses word_at is_comma is_new_name (words_at ts) (label_limit - length words) words left kept (label_limit - (length words + 1)) next word rest read (joins-inj words word e)
+      words-inj e = loop-refuses word_at is_comma is_new_name (words_at ts)
+          (label_limit - length words) words left kept (label_limit - (length words + 1)) next word
+          rest read (joins-inj words word e)
 
       module _ (is : IsWord word) (other : is_inj word ≡ false) where
         pub words-old : (place_of word words ≡ None → ⊥) → words_at ts ≡ None
         words-old old =
-            loop-refuses word_at is_comma is_new_name (words_at ts) (label_limit - length words) words left kept (label_limit - (length words + 1)) next word rest read (joins-old words word is other old)
+            loop-refuses word_at is_comma is_new_name (words_at ts) (label_limit - length words)
+            words left kept (label_limit - (length words + 1)) next word rest read
+            (joins-old words word is other old)
 
-        module _ (new : place_of word words ≡ None) (more : List (List ℕ)) (pushed : more ≡ words ++ word ∷ []) where
-          pub words-ends : behind_sign is_comma rest ≡ None → (same : List Sign) → same ≡ rest → words_at ts ≡ Some (more, same)
+        module _ (new : place_of word words ≡ None) (more : List (List ℕ))
+            (pushed : more ≡ words ++ word ∷ []) where
+          pub words-ends : behind_sign is_comma rest ≡ None → (same : List Sign) → same ≡ rest
+              → words_at ts ≡ Some (more, same)
           words-ends ends same e =
-              loop-ends word_at is_comma is_new_name (words_at ts) (label_limit - length words) words left kept (label_limit - (length words + 1)) next word rest read (joins-new words word is other new) ends
+              loop-ends word_at is_comma is_new_name (words_at ts) (label_limit - length words)
+              words left kept (label_limit - (length words + 1)) next word rest read
+              (joins-new words word is other new) ends
               ∙ (λ i. Some (sym pushed i, sym e i))
 
-          pub words-goes : (others : List Sign) → behind_sign is_comma rest ≡ Some others → items_from word_at is_comma is_new_name (label_limit - length more) more others ≡ words_at ts
+          pub words-goes : (others : List Sign) → behind_sign is_comma rest ≡ Some others
+              → items_from word_at is_comma is_new_name (label_limit - length more) more others
+              ≡ words_at ts
           words-goes others follows =
-              let count : label_limit - length more ≡ label_limit - (length words + 1) = omega (arith, ap length pushed, length-append words (word ∷ [])) in
+              let count : label_limit - length more ≡ label_limit - (length words + 1) =
+              omega (arith, ap length pushed, length-append words (word ∷ [])) in
               (λ i. items_from word_at is_comma is_new_name (count i) (pushed i) others)
-              ∙ loop-goes word_at is_comma is_new_name (words_at ts) (label_limit - length words) words left kept (label_limit - (length words + 1)) next word rest read (joins-new words word is other new) others follows
+              ∙ loop-goes word_at is_comma is_new_name (words_at ts) (label_limit - length words)
+              words left kept (label_limit - (length words + 1)) next word rest read
+              (joins-new words word is other new) others follows

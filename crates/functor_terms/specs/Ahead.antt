@@ -1,7 +1,8 @@
--- The tokens that are left of a functor line, as the reader moves them on. Only private clauses cite
--- these words.
+-- The tokens that are left of a functor line, as the reader moves them on. Only private clauses
+-- cite these words.
 --
 -- IsToken sign        == digits are decimal digits, and words have the bytes of words
+-- IsFirst first       == the token that is cut already is such a token
 -- left_behind         == the token that is cut already, before those behind it
 -- others              == the tokens behind the first
 -- is_bound n          == a constant or an exponent may have n labels
@@ -23,7 +24,7 @@ IsToken (Digits digits) = (0 < length digits) × IsTrue (list_all is_ascii_digit
 IsToken (Word word) = IsWord word
 IsToken _ = Unit {0}
 
--- so does the token that is cut already
+-- the token that is cut already, if there is one, is such a token
 abbrev pub IsFirst : Option Sign → Type 0
 IsFirst None = Unit {0}
 IsFirst (Some sign) = IsToken sign

@@ -1,5 +1,5 @@
--- The two forms of chains: sums of products, and products of powers. Only private clauses cite these
--- words.
+-- The two forms of chains: sums of products, and products of powers. Only private clauses cite
+-- these words.
 --
 -- sign_of link    == the sign between the parts
 -- node_of link    == the node over the parts

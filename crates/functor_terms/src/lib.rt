@@ -23,10 +23,12 @@ mod part;
 mod powers;
 mod reading;
 mod sign;
+#[cfg(test)]
+mod tables;
 mod term;
-mod text;
 #[cfg(test)]
 mod tests;
+mod text;
 
 pub use fault::{PartFault, TermFault};
 pub use labels::Labels;

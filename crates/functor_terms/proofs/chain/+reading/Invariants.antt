@@ -33,7 +33,8 @@ decreases-chain l = 9 * (l.room + l.depth) + 6 + rank l.link
 
 -- the parts so far and those that are left are all
 abbrev pub invariant-chain-parts : goal.invariant-chain-parts
-invariant-chain-parts l = IsChained l.fn.link (inside_at l.fn.room) l.fn.depth l.fn.ahead l.parts.items l.left l.nodes
+invariant-chain-parts l = IsChained l.fn.link (inside_at l.fn.room) l.fn.depth l.fn.ahead
+    l.parts.items l.left l.nodes
 
 abbrev pub decreases-chain-parts : goal.decreases-chain-parts
 decreases-chain-parts l = 256 - vec_len l.parts
