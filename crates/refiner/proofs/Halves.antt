@@ -4,7 +4,7 @@ use Rattle.std.proofs.Math.Nat.{mul-le-mul_left, pow-succ'}
 use Rattle.std.proofs.lemmas.Bool.{eq-eqb, ne_eqb, cases_eq}
 use Rattle.std.proofs.lemmas.Bool.Decides.{nat_tests}
 use Rattle.std.proofs.lemmas.List.{get_or-map}
-use Rattle.std.proofs.lemmas.List.Sums.{sum_by-cons, count_by-le-length}
+use Rattle.std.proofs.lemmas.List.Sums.{count_by-le-length}
 use Rattle.modalities.specs.declared.three.Three.{Three}
 use Rattle.refinable_partition.specs.Blocks.{Blocks, block_at}
 use Rattle.sorted_systems.specs.Systems.{Sorted, class_in}
@@ -14,41 +14,8 @@ use Rattle.refiner.specs.History.{Moment, IsStart, IsRound, AreRounds, AreHalves
 use Rattle.refiner.specs.Making.{IsHalf}
 use Rattle.refiner.proofs.Ends.{zero_at}
 use Rattle.refiner.proofs.Keeps.{length-map}
-use Rattle.refiner.proofs.RoundMade.{coarse_after_at, length-coarse_after}
-
-size-cons : (x a : ℕ) (xs : List ℕ) → size_of (x ∷ xs) a ≡ cond (x == a) 1 0 + size_of xs a
-size-cons x a xs = sum_by-cons (λ (v : ℕ). cond (v == a) 1 0) x xs
-
-size_yes : (x a : ℕ) (xs : List ℕ) → x ≡ a → size_of (x ∷ xs) a ≡ suc (size_of xs a)
-size_yes x a xs h = size-cons x a xs ∙ ap (λ t. cond t 1 0 + size_of xs a) (eq-eqb x a h)
-    ∙ omega arith
-
-size_no : (x a : ℕ) (xs : List ℕ) → x ≢ a → size_of (x ∷ xs) a ≡ size_of xs a
-size_no x a xs h =
-    size-cons x a xs ∙ ap (λ t. cond t 1 0 + size_of xs a) (ne_eqb x a h) ∙ zero-add (size_of xs a)
-
-size_more : (x a : ℕ) (xs : List ℕ) → size_of xs a ≤ size_of (x ∷ xs) a
-size_more x a xs = omega (arith, size-cons x a xs)
-
--- a block whose members are all in another has at most as many
-pub size_within :
-    (xs ys : List ℕ) (a b : ℕ) → length xs ≡ length ys →
-    ((k : ℕ) → k < length xs → get_or xs k 0 ≡ a → get_or ys k 0 ≡ b) →
-    size_of xs a ≤ size_of ys b
-size_within [] ys a b len within = omega arith
-size_within (x ∷ xs) [] a b len within = absurd (omega arith)
-size_within (x ∷ xs) (y ∷ ys) a b len within =
-    let rest = size_within xs ys a b (omega arith) (λ k h e. within (suc k) (omega arith) e) in
-    elim (cases_eq x a) [
-      | inl same ↦ omega (
-        arith,
-        size_yes x a xs same,
-        size_yes y b ys
-            (within 0 (omega arith) same),
-        rest,
-      )
-      | inr other ↦ omega (arith, size_no x a xs other, size_more y b ys, rest)
-    ]
+use Rattle.refiner.proofs.Rounds.{class-coarse_after, length-coarse_after}
+use Rattle.refiner.proofs.Sizes.{size_yes, size_more, size_within}
 
 -- a state's own block has a member
 pub size_some : (xs : List ℕ) (x : ℕ) → x < length xs → 1 ≤ size_of xs (get_or xs x 0)
@@ -88,6 +55,7 @@ to_old :
     cond (b == splitter) inner (cond (c == coarse) outer c) ≡ old → c ≡ old
 to_old b c splitter coarse inner outer n old i o small low e = grind (arith, nat_tests)
 
+-- coarse numbers after a round
 next_small :
     (b c splitter coarse inner outer n : ℕ) → inner ≡ 2 * n + 1 → outer ≡ 2 * n + 2 → c ≤ 2 * n →
     cond (b == splitter) inner (cond (c == coarse) outer c) ≤ 2 * (n + 1)
@@ -112,6 +80,7 @@ module _
   module _
       (number : ℕ) (before after : Moment) (r : Round)
       (round : IsRound node value system number before after r) (at : At number before) where
+    -- the coarse block of a state after a round
     next_is :
         (t : ℕ) → t < length system →
         class_in after.coarse t
@@ -119,8 +88,9 @@ module _
         (cond (class_in before.coarse t == r.coarse) r.outer (class_in before.coarse t))
     next_is t h =
         ap (λ cs. class_in cs t) round.coarse_is
-        ∙ coarse_after_at before.blocks before.coarse r t (at.1 ∙ sym at.0) (omega (arith, at.0))
+        ∙ class-coarse_after before.blocks before.coarse r t (at.1 ∙ sym at.0) (omega (arith, at.0))
 
+    -- the coarse numbers stay small
     next_at : At (number + 1) after
     next_at = (
       round.one_each,
@@ -130,6 +100,7 @@ module _
           round.inner_is round.outer_is (at.2 t h)),
     )
 
+    -- a coarse block after the round, beside another list
     sized :
         (xs : List ℕ) (y a b : ℕ) → length xs ≡ length system →
         ((t : ℕ) → t < length system → class_in after.coarse t ≡ a → class_in xs t ≡ b) →

@@ -20,6 +20,7 @@ module _ {Shape Label : Type 0} (node : Shape → ℕ) (kin : Shape → Shape �
     (agree : Classed Shape Label → Classed Shape Label → Type 0)
     (laws : IfaceLaws node kin fits value agree) (system : List (Sorted Shape Label))
     (sys : IsSystem node kin fits system) where
+  -- a system's states are good
   pub good : (x : ℕ) (a : Sorted Shape Label) → IsState system x a →
       IsGood node kin fits value agree laws (length system) a
   good x a at = record {
@@ -28,6 +29,7 @@ module _ {Shape Label : Type 0} (node : Shape → ℕ) (kin : Shape → Shape �
     fit = sys.fit x a at;
   }
 
+  -- blocks lie in coarse blocks after any rounds
   pub nested_now : (start : List Start) (first : Moment) → IsStart node value system start first →
       (later : List Moment) (rounds : List Round) → AreRounds node value system 0 first later
       rounds → (p q : Blocks) (numbers : List ℕ) → last_moment first later ≡ moment_of p q numbers →

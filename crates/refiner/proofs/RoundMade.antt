@@ -18,25 +18,13 @@ use Rattle.refiner.proofs.Keeps.{Below, map_same, length-map}
 use Rattle.refiner.proofs.Apart.{cut_apart}
 use Rattle.refiner.proofs.Cutting.{any_weaker}
 use Rattle.refiner.proofs.Lists.{apart_same}
+use Rattle.refiner.proofs.Rounds.{class-coarse_after, length-coarse_after}
 
-pub length-coarse_after : (bs cs : List ℕ) (r : Round) → length cs ≡ length bs →
-    length (coarse_after bs cs r) ≡ length bs
-length-coarse_after [] cs r e = refl
-length-coarse_after (b ∷ bs) [] r e = absurd (omega arith)
-length-coarse_after (b ∷ bs) (c ∷ cs) r e = ap suc (length-coarse_after bs cs r (omega arith))
-
-pub coarse_after_at : (bs cs : List ℕ) (r : Round) (x : ℕ) → length cs ≡ length bs → x < length bs →
-    get_or (coarse_after bs cs r) x 0 ≡ cond (get_or bs x 0 == r.splitter) r.inner
-    (cond (get_or cs x 0 == r.coarse) r.outer (get_or cs x 0))
-coarse_after_at [] cs r x e h = absurd (omega arith)
-coarse_after_at (b ∷ bs) [] r x e h = absurd (omega arith)
-coarse_after_at (b ∷ bs) (c ∷ cs) r zero e h = refl
-coarse_after_at (b ∷ bs) (c ∷ cs) r (suc x) e h = coarse_after_at bs cs r x (omega arith)
-    (omega arith)
-
+-- what stands at a place is in the list
 pub contains_at : (xs : List ℕ) (x v : ℕ) → x < length xs → get_or xs x 0 ≡ v → Contains xs v
 contains_at xs x v h e = (x, h, get_or_default xs x v 0 h ∙ e)
 
+-- each place has a state
 pub state_at : {X : Type 0} (xs : List X) (x : ℕ) → x < length xs → (a : X) ×
     (slice_get xs x ≡ Some a)
 state_at xs x h = elim (slice_get_cases xs x).1 [
@@ -45,6 +33,7 @@ state_at xs x h = elim (slice_get_cases xs x).1 [
       absurd (omega (arith, past.0))
 ]
 
+-- different places have different numbers
 pub apart_places : (numbers : List ℕ) (i j : ℕ) → AllPairs (λ a b. a ≢ b) numbers →
     i < length numbers → j < length numbers → i ≢ j → get_or numbers i 0 ≢ get_or numbers j 0
 apart_places numbers i j apart hi hj ne e = elim (cases_order i j) [
@@ -76,15 +65,19 @@ module _ {Shape Label : Type 0} (node : Shape → ℕ) (value : Shape → List L
   abbrev after : Moment
   after = moment_of p2 q2 numbers2
 
+  -- the coarse block has a number
   hc : c < length numbers
   hc = rw c_is (omega (arith, ready.in_coarse x0 torn.0, ready.one_number))
 
+  -- a state's coarse number
   coarse_at : (x : ℕ) → x < states_of p → class_in before.coarse x ≡ get_or numbers (block_at q x) 0
   coarse_at x hx = get_or-map (λ k. get_or numbers k 0) q.block x 0 0 (omega (arith, ready.states))
 
+  -- a state's coarse block has a number
   hq : (x : ℕ) → x < states_of p → block_at q x < length numbers
   hq x hx = omega (arith, ready.in_coarse x hx, ready.one_number)
 
+  -- numbers tell coarse blocks apart
   same_test : (x : ℕ) → x < states_of p →
       (class_in before.coarse x == r.coarse) ≡ (block_at q x == c)
   same_test x hx = elim (cases_eq (block_at q x) c) [
@@ -94,23 +87,28 @@ module _ {Shape Label : Type 0} (node : Shape → ℕ) (value : Shape → List L
         (hq x hx) hc other (sym (coarse_at x hx) ∙ e ∙ coarse_is)) ∙ sym (ne_eqb _ _ other)
   ]
 
+  -- the code's trit of a target is that of the history
   same_trit : (t : ℕ) → t < length system → round_trit before r t ≡ trit_in p q r.splitter c t
   same_trit t ht = ap (λ b. cond (block_at p t == r.splitter) 2 (cond b 1 0))
       (same_test t (omega (arith, n_is)))
 
+  -- the code's value of a state is that of the history
   value_is : (x : ℕ) (a : Sorted Shape Label) → IsState system x a →
       value a.shape a.labels (map (round_trit before r) a.targets) ≡ value_at values x
   value_is x a at = ap (value a.shape a.labels) (map_same (length system) (round_trit before r)
       (trit_in p q r.splitter c) same_trit a.targets (in_range x a at)) ∙ vals.each x a at
 
+  -- so the state has it
   has : (x : ℕ) (v : Three) → x < length system → value_at values x ≡ v →
       HasValue value system (round_trit before r) x v
   has x v hx e = (let a = state_at system x hx in (a.0, a.1, value_is x a.0 a.1 ∙ e))
 
+  -- and no other
   has_only : (x : ℕ) (v : Three) → HasValue value system (round_trit before r) x v →
       v ≡ value_at values x
   has_only x v h = sym h.2 ∙ value_is x h.0 h.1
 
+  -- a part has a member
   member : (b : ℕ) (part : Part) → HasMember b p p2 part → Contains p2.block part.block
   member b part m = contains_at p2.block m.0 part.block (omega (arith, m.1, cut.states)) m.3
 
@@ -140,6 +138,7 @@ module _ {Shape Label : Type 0} (node : Shape → ℕ) (value : Shape → List L
             goes.4.0 ∙ ap (λ (t : Part). t.block) one),
       )
 
+  -- a split of the code is one of the history
   split_is : (s : Split) → IsSplitBy values p p2 s → IsSplit node value system before after r s
   split_is s by_ = record {
     live = (let m = by_.none_empty 0 (record { block = 0; three = value_at values 0 })
@@ -162,6 +161,7 @@ module _ {Shape Label : Type 0} (node : Shape → ℕ) (value : Shape → List L
     exactly = λ k d h x hx. part_is s by_ k d h x hx;
   }
 
+  -- the coarse numbers after the round
   coarse_next : (x : ℕ) → x < states_of p → get_or numbers2 (block_at q2 x) 0 ≡ cond
       (block_at p x == r.splitter) r.inner (cond (class_in before.coarse x == r.coarse) r.outer
       (class_in before.coarse x))
@@ -183,9 +183,11 @@ module _ {Shape Label : Type 0} (node : Shape → ℕ) (value : Shape → List L
             ])
       ]
 
+  -- each state has a coarse number
   lengths : length before.coarse ≡ length p.block
   lengths = length-map (λ k. get_or numbers k 0) q.block ∙ ready.states
 
+  -- so the round is one of the history
   pub round_made : IsRound node value system number before after r
   round_made = record {
     one_each = cut.states ∙ n_is;
@@ -208,7 +210,7 @@ module _ {Shape Label : Type 0} (node : Shape → ℕ) (value : Shape → List L
         (λ x hx. (let hx2 : x < length p.block =
         omega (arith, length-map (λ k. get_or numbers2 k 0) q2.block, states2, ready.states) in
         get_or-map (λ k. get_or numbers2 k 0) q2.block x 0 0 (omega (arith, states2, ready.states))
-        ∙ coarse_next x hx2 ∙ sym (coarse_after_at p.block before.coarse r x lengths hx2)));
+        ∙ coarse_next x hx2 ∙ sym (class-coarse_after p.block before.coarse r x lengths hx2)));
     parents_apart = cut.parents_apart;
     news_apart = cut.news_apart;
     splits = All-weaker (IsSplitBy values p p2) (IsSplit node value system before after r) split_is
@@ -221,6 +223,7 @@ module _ {Shape Label : Type 0} (node : Shape → ℕ) (value : Shape → List L
         (sym e)) ∙ sym (has_only y w hw));
   }
 
+-- each element is below a number
 pub below_from_all : (n : ℕ) (ts : List ℕ) → All (λ t. t < n) ts → Below n ts
 below_from_all n [] all = tt
 below_from_all n (t ∷ ts) all =

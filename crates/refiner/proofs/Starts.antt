@@ -37,6 +37,7 @@ node_at {Shape} {Tag} node k (s ∷ shapes) edges zero a at =
     ap (λ (b : Sorted Shape Tag). Label (node b.shape)) same
 node_at node k (s ∷ shapes) edges (suc x) a at = node_at node (k + 1) shapes edges x a at
 
+-- a value that is a label tells it
 label_is : (m n : ℕ) → Label m ≡ Label n → m ≡ n
 label_is m n e = cc
 
@@ -82,13 +83,16 @@ module _
     (start : List Start) (len : length start ≡ p.count)
     (each : (k : ℕ) (d : Start) → k < p.count → IsStartBlock node system values p k
     (get_or start k d)) where
+  -- each place has a state
   state : (x : ℕ) → x < length system → (a : Sorted Shape Tag) × IsState system x a
   state x hx = state_at system x hx
 
+  -- the start block at a place
   block_is : (k : ℕ) (d : Start) → k < length start → IsStartBlock node system values p k
       (get_or start k d)
   block_is k d h = each k d (omega (arith, len))
 
+  -- so the start blocks are those of the history
   pub start_made : IsStart node value system start (first_moment system p)
   start_made = record {
     one_each = n;

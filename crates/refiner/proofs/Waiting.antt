@@ -58,6 +58,7 @@ half_of p q x y states nested torn smaller =
           (lie p q x nested torn.0) other,
     )
 
+-- the smaller of two blocks is at most a half
 pub half_made :
     (p q : Blocks) (x y u v : ℕ) → states_of q ≡ states_of p → AreNested p q → AreTorn p q x y →
     ((u ≡ x) × (v ≡ y)) ⊎ ((u ≡ y) × (v ≡ x)) →
@@ -97,6 +98,7 @@ adds_none p q before = record {
   parents = All-nil (λ (s : Split). HasWaiting p q before s.parent);
 }
 
+-- one parent more
 pub adds_more :
     (p q : Blocks) (splits : List Split) (i : ℕ) (s : Split) (before after : List ℕ) (x : ℕ) →
     i < length splits → s ≡ get_or splits i s → x < states_of p → block_at p x ≡ s.parent →
@@ -189,6 +191,7 @@ module _
         ]
       ]
 
+  -- so the list is right after the round
   pub waiting_after : AreWaiting p2 q2 after
   waiting_after = record {
     live = adds.live (All-weaker (λ c. c < q.count) (λ c. c < q2.count)
@@ -225,6 +228,7 @@ copied_some : (r : Option (Bor ℕ)) (c : ℕ) → Some c ≡ option_map (λ x. 
 copied_some None c e = cc
 copied_some (Some x) c e = refl
 
+-- the last element is taken off
 pub popped_last :
     (before after : List ℕ) (last : Option (Bor ℕ)) (popped : Option ℕ) (c : ℕ) →
     Some c ≡ option_map (λ x. x.now) last → is_some last ≡ nat_lt 0 (length before) →

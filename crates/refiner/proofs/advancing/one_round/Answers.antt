@@ -7,6 +7,7 @@ use Rattle.sorted_systems.specs.Systems.{system_from}
 use Rattle.refiner.specs.declared.history.Split.{Split}
 use Rattle.refiner.specs.Grouping.{AreCut}
 use Rattle.refiner.specs.Waiting.{AddsParents}
+use Rattle.refiner.proofs.Apart.{in_blocks_after}
 use Rattle.refiner.proofs.Ready.{numbers_apart_next, numbers_small_next, scans_small_next}
 use Rattle.refiner.proofs.States.{length-system_from}
 use Rattle.refiner.proofs.RoundMade.{round_made, below_from_all}
@@ -80,12 +81,13 @@ returns-clause-ready g c =
       numbered = record {
         states = coarse;
         in_blocks = λ x hx.
-            omega (arith, c.blocks-live.ensures.in_range x hx, c.blocks-live.ensures.blocks);
+            in_blocks_after c.in_ok-values.values.items p.blocks c.split_all.new.blocks
+            c.in_ok-splits.splits.items cut ready.in_blocks x (omega (arith, hx, cut.states));
         in_coarse = λ x hx.
             omega (
               arith,
-              c.blocks-coarse.ensures.in_range x (omega (arith, coarse)),
-              c.blocks-coarse.ensures.blocks,
+              c.blocks-few.ensures.in_range x (omega (arith, coarse)),
+              c.blocks-few.ensures.blocks,
             );
         one_number =
             ap length c.in_ok-push.ensures.items
@@ -106,8 +108,8 @@ returns-clause-ready g c =
           (numbers_small_next p.numbers.items k c.args.number was.numbers_small);
       few = omega (
         arith,
-        c.blocks-coarse.ensures.few,
-        c.blocks-coarse.ensures.blocks,
+        c.blocks-few.ensures.few,
+        c.blocks-few.ensures.blocks,
         coarse,
         states,
       );
