@@ -4,7 +4,7 @@ ghost use Rattle.std.specs.Prelude.{◌<◌};
 
 use crate::built::{refined_sets, refined_sum};
 use crate::classes::classes_of;
-use crate::plain::{System, set, structure};
+use crate::plain::{System, set, structure, structure_at};
 use crate::replay::replay;
 use edge_store::Edge;
 use polynomial_iface::Form;
@@ -102,12 +102,12 @@ fn below(seed: &mut u64, n: u32) -> u32
     ((*seed >> 33) % n as u64) as u32
 }
 
-/// A system of some sets, pairs, summands, single successors and constants.
+/// A system of some sets, pairs, summands, single successors, and constants of two nodes.
 fn random_system(alloc: Global, seed: &mut u64) -> Result<System, AllocError> {
     let mut system = System::new(alloc);
     let n = 1 + below(seed, 14);
     for _x in 0..n {
-        let kind = below(seed, 8);
+        let kind = below(seed, 9);
         let mut targets = Vec::new(alloc);
         let count = match kind {
             0 | 1 | 2 | 3 => below(seed, 4),
@@ -123,7 +123,8 @@ fn random_system(alloc: Global, seed: &mut u64) -> Result<System, AllocError> {
             4 => structure(Form::Places(2)),
             5 => structure(Form::Tagged(below(seed, 2))),
             6 => structure(Form::Identity),
-            _ => structure(Form::Constant(below(seed, 2) as u64)),
+            7 => structure(Form::Constant(below(seed, 2) as u64)),
+            _ => structure_at(5, Form::Constant(below(seed, 2) as u64)),
         };
         system.push(alloc, shape, targets.as_slice())?;
     }
