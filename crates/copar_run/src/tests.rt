@@ -45,7 +45,8 @@ fn counted<L: Ledger>(
     run(alloc, words, folder, out, err, &mut steps)
 }
 
-/// A run of the command on F over this folder. The sink for the output takes at most 4 bytes at a write.
+/// A run of the command on F over this folder. The sink for the output takes at most 4 bytes at a
+/// write.
 fn run_in(
     alloc: Global,
     command: &str,
