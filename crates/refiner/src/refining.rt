@@ -27,7 +27,7 @@ fn block_list(alloc: Global, blocks: &Partition) -> Result<Vec<u32>, AllocError>
     Ok(found)
 }
 
-/// How many blocks there are. It looks at the size of each, and so sees that none is empty.
+/// How many blocks there are. It looks at the members of each, and so sees that none is empty.
 fn count_blocks(blocks: &Partition) -> u32
     ensures count { result ≡ blocks.now.count }
     ensures in_range { (x : ℕ) → x < states_of blocks.now → block_at blocks.now x < result }
