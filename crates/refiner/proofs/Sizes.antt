@@ -4,19 +4,23 @@ use Rattle.std.proofs.lemmas.Bool.{eq-eqb, ne_eqb, cases_eq}
 use Rattle.std.proofs.lemmas.List.Sums.{sum_by-cons}
 use Rattle.refinable_partition.specs.Blocks.{size_in}
 
+-- the first state, and the others
 size-cons : (x a : ℕ) (xs : List ℕ) → size_in (x ∷ xs) a ≡ cond (x == a) 1 0 + size_in xs a
 size-cons x a xs = sum_by-cons (λ (v : ℕ). cond (v == a) 1 0) x xs
 
-size_yes : (x a : ℕ) (xs : List ℕ) → x ≡ a → size_in (x ∷ xs) a ≡ suc (size_in xs a)
+-- a member more
+pub size_yes : (x a : ℕ) (xs : List ℕ) → x ≡ a → size_in (x ∷ xs) a ≡ suc (size_in xs a)
 size_yes x a xs h =
     size-cons x a xs ∙ ap (λ t. cond t 1 0 + size_in xs a) (eq-eqb x a h) ∙ omega arith
 
+-- a member of another block more
 size_no : (x a : ℕ) (xs : List ℕ) → x ≢ a → size_in (x ∷ xs) a ≡ size_in xs a
 size_no x a xs h =
     size-cons x a xs ∙ ap (λ t. cond t 1 0 + size_in xs a) (ne_eqb x a h)
     ∙ zero-add (size_in xs a)
 
-size_more : (x a : ℕ) (xs : List ℕ) → size_in xs a ≤ size_in (x ∷ xs) a
+-- a block does not lose members where a state is added
+pub size_more : (x a : ℕ) (xs : List ℕ) → size_in xs a ≤ size_in (x ∷ xs) a
 size_more x a xs = omega (arith, size-cons x a xs)
 
 -- what stands in one block stands in a coarse block
@@ -36,7 +40,12 @@ size_within (x ∷ xs) [] a c len lie = absurd (omega arith)
 size_within (x ∷ xs) (y ∷ ys) a c len lie =
     let rest = size_within xs ys a c (omega arith) (rest_lie x y xs ys a c lie) in
     elim (cases_eq x a) [
-      | inl same ↦ omega (arith, size_yes x a xs same, size_yes y c ys (lie 0 (omega arith) same), rest)
+      | inl same ↦ omega (
+        arith,
+        size_yes x a xs same,
+        size_yes y c ys (lie 0 (omega arith) same),
+        rest,
+      )
       | inr other ↦ omega (arith, size_no x a xs other, size_more y c ys, rest)
     ]
 
@@ -94,7 +103,12 @@ size_full (x ∷ xs) (y ∷ ys) a c len lie full (suc k) h e =
     let inner = rest_lie x y xs ys a c lie in
     let rest : size_in ys c ≤ size_in xs a =
     elim (cases_eq x a) [
-      | inl same ↦ omega (arith, size_yes x a xs same, size_yes y c ys (lie 0 (omega arith) same), full)
+      | inl same ↦ omega (
+        arith,
+        size_yes x a xs same,
+        size_yes y c ys (lie 0 (omega arith) same),
+        full,
+      )
       | inr other ↦ omega (arith, size_no x a xs other, size_more y c ys, full)
     ] in
     size_full xs ys a c (omega arith) inner rest k (omega arith) e

@@ -19,14 +19,17 @@ pub one_from_first :
     ((k : ℕ) → k < length xs → block_at p (get_or xs k 0) ≡ block_at p (get_or xs 0 0)) →
     IsOne p q c
 one_from_first p q c xs states members alike x y hx hy cx cy =
-    let first : (z : ℕ) → z < states_of p → block_at q z ≡ c → block_at p z ≡ block_at p (get_or xs 0 0) =
+    let first : (z : ℕ) → z < states_of p → block_at q z ≡ c →
+    block_at p z ≡ block_at p (get_or xs 0 0) =
     λ z hz cz. (
     let found = members.every z (subst (λ n. z < n) (sym states) hz) cz in
-    ap (block_at p) (sym (get_or_default xs found.0 0 z found.1 ∙ found.2)) ∙ alike found.0 found.1) in
+    ap (block_at p) (sym (get_or_default xs found.0 0 z found.1 ∙ found.2))
+    ∙ alike found.0 found.1) in
     first x hx cx ∙ sym (first y hy cy)
 
 -- the members of a block lie in the coarse block of one of them
-lie : (p q : Blocks) (x : ℕ) → AreNested p q → x < states_of p → Lie p.block q.block (block_at p x) (block_at q x)
+lie : (p q : Blocks) (x : ℕ) → AreNested p q → x < states_of p → Lie p.block q.block (block_at p x)
+    (block_at q x)
 lie p q x nested hx k hk e = nested k x hk hx e
 
 -- a coarse block is one block where a member's block has as many members
@@ -34,7 +37,8 @@ pub one_from_sizes :
     (p q : Blocks) (c x : ℕ) → states_of q ≡ states_of p → AreNested p q → x < states_of p →
     block_at q x ≡ c → size_in p.block (block_at p x) ≡ size_in q.block c → IsOne p q c
 one_from_sizes p q c x states nested hx cx same y z hy hz cy cz =
-    let whole : (k : ℕ) → k < length p.block → block_at q k ≡ block_at q x → block_at p k ≡ block_at p x =
+    let whole : (k : ℕ) → k < length p.block → block_at q k ≡ block_at q x →
+    block_at p k ≡ block_at p x =
     λ k hk e.
     size_full p.block q.block (block_at p x) (block_at q x) (sym states) (lie p q x nested hx)
     (omega (arith, same, ap (size_in q.block) cx)) k (subst (λ n. k < n) (sym states) hk) e in
@@ -54,17 +58,20 @@ half_of p q x y states nested torn smaller =
           (lie p q x nested torn.0) other,
     )
 
+-- the smaller of two blocks is at most a half
 pub half_made :
     (p q : Blocks) (x y u v : ℕ) → states_of q ≡ states_of p → AreNested p q → AreTorn p q x y →
     ((u ≡ x) × (v ≡ y)) ⊎ ((u ≡ y) × (v ≡ x)) →
     size_in p.block (block_at p u) ≤ size_in p.block (block_at p v) → IsHalf p q u
 half_made p q x y u v states nested torn (inl same) smaller =
     half_of p q u v states nested
-    (subst (λ z. AreTorn p q z v) (sym same.0) (subst (λ z. AreTorn p q x z) (sym same.1) torn)) smaller
+    (subst (λ z. AreTorn p q z v) (sym same.0) (subst (λ z. AreTorn p q x z) (sym same.1) torn))
+    smaller
 half_made p q x y u v states nested torn (inr turned) smaller =
     half_of p q u v states nested
     (subst (λ z. AreTorn p q z v) (sym turned.0)
-    (subst (λ z. AreTorn p q y z) (sym turned.1) (torn.1, torn.0, sym torn.2, λ e. torn.3 (sym e)))) smaller
+    (subst (λ z. AreTorn p q y z) (sym turned.1) (torn.1, torn.0, sym torn.2, λ e. torn.3 (sym e))))
+    smaller
 
 -- a coarse block that is one block leaves the list
 pub waiting_popped :
@@ -73,7 +80,8 @@ pub waiting_popped :
 waiting_popped p q before after c is one waiting = record {
   live = λ k d h.
       subst (λ b. b < q.count) (get_or_append_left after (c ∷ []) d k h)
-      (subst (λ xs. All (λ b. b < q.count) xs) is waiting.live k d (omega (arith, length_push after c)));
+      (subst (λ xs. All (λ b. b < q.count) xs) is waiting.live k d
+      (omega (arith, length_push after c)));
   every = λ x y hx hy same other.
       elim (Contains-push_cases after c (block_at q x)
       (subst (λ xs. Contains xs (block_at q x)) is (waiting.every x y hx hy same other))) [
@@ -90,6 +98,7 @@ adds_none p q before = record {
   parents = All-nil (λ (s : Split). HasWaiting p q before s.parent);
 }
 
+-- one parent more
 pub adds_more :
     (p q : Blocks) (splits : List Split) (i : ℕ) (s : Split) (before after : List ℕ) (x : ℕ) →
     i < length splits → s ≡ get_or splits i s → x < states_of p → block_at p x ≡ s.parent →
@@ -154,7 +163,8 @@ module _
   of_parent x hx found =
       let t : Split = found.1 in
       let has : HasWaiting p2 q2 after t.parent =
-      subst (λ (u : Split). HasWaiting p2 q2 after u.parent) found.3 (adds.parents found.0 t found.2) in
+      subst (λ (u : Split). HasWaiting p2 q2 after u.parent) found.3
+      (adds.parents found.0 t found.2) in
       let hz : has.0 < states_of p = subst (λ n. has.0 < n) cut.states has.1 in
       let was : block_at p has.0 ≡ block_at p x =
       elim (cut.moves has.0 hz) [
@@ -171,17 +181,21 @@ module _
       elim (cases_eq (block_at p x) s) [
         | inl in_x ↦ elim (cases_eq (block_at p y) s) [
           | inl in_y ↦ absurd (other (in_x ∙ sym in_y))
-          | inr out_y ↦ absurd (omega (arith, in_new x hx in_x, same, in_old y hy out_y, in_coarse y hy))
+          | inr out_y ↦
+              absurd (omega (arith, in_new x hx in_x, same, in_old y hy out_y, in_coarse y hy))
         ]
         | inr out_x ↦ elim (cases_eq (block_at p y) s) [
-          | inl in_y ↦ absurd (omega (arith, in_new y hy in_y, same, in_old x hx out_x, in_coarse x hx))
+          | inl in_y ↦ absurd
+              (omega (arith, in_new y hy in_y, same, in_old x hx out_x, in_coarse x hx))
           | inr out_y ↦ (sym (in_old x hx out_x) ∙ same ∙ in_old y hy out_y, in_old x hx out_x)
         ]
       ]
 
+  -- so the list is right after the round
   pub waiting_after : AreWaiting p2 q2 after
   waiting_after = record {
-    live = adds.live (All-weaker (λ c. c < q.count) (λ c. c < q2.count) (λ c h. omega (arith, h, one_more)) before waiting.live);
+    live = adds.live (All-weaker (λ c. c < q.count) (λ c. c < q2.count)
+        (λ c h. omega (arith, h, one_more)) before waiting.live);
     every = λ x y hx2 hy2 same other. (
         let hx : x < states_of p = subst (λ n. x < n) cut.states hx2 in
         let hy : y < states_of p = subst (λ n. y < n) cut.states hy2 in
@@ -214,6 +228,7 @@ copied_some : (r : Option (Bor ℕ)) (c : ℕ) → Some c ≡ option_map (λ x. 
 copied_some None c e = cc
 copied_some (Some x) c e = refl
 
+-- the last element is taken off
 pub popped_last :
     (before after : List ℕ) (last : Option (Bor ℕ)) (popped : Option ℕ) (c : ℕ) →
     Some c ≡ option_map (λ x. x.now) last → is_some last ≡ nat_lt 0 (length before) →
@@ -221,6 +236,7 @@ pub popped_last :
     ((d : ℕ) → 0 < length before → popped ≡ Some (get_or before (length before - 1) d)) →
     before ≡ after ++ option_to_list popped → before ≡ after ++ c ∷ []
 popped_last before after last popped c read some at value items =
-    let many : 0 < length before = ltb-true 0 (length before) (sym some ∙ copied_some last c read) in
+    let many : 0 < length before = ltb-true 0 (length before) (sym some
+    ∙ copied_some last c read) in
     let here : c ≡ get_or before (length before - 1) c = ap (λ o. unwrap_or o c) read ∙ at c in
     items ∙ ap (λ o. after ++ option_to_list o) (value c many ∙ ap Some (sym here))

@@ -83,8 +83,8 @@ fn one_round<I: Iface, L: Ledger>(
     let outer = 2 * number + 2;
     progress.numbers[c as usize] = outer;
     progress.numbers.push(inner)?;
-    let _live = progress.blocks.blocks();
-    let _coarse = progress.coarse.blocks();
+    // There are at most as many coarse blocks as states, so the rounds end.
+    let _few = progress.coarse.blocks();
     let round = Round {
         splitter,
         coarse,

@@ -74,6 +74,7 @@ pub fn refine<I: Iface, L: Ledger>(
     ensures grows { steps.old ≤ steps.new }
 {
     let n = store.states();
+    // There are fewer than 2^26 edges.
     let _edges = store.len();
     let (values, first_labels) = first_values(iface, alloc, shapes, store, steps)?;
     let mut progress = Progress::begun(alloc, n)?;

@@ -36,6 +36,7 @@ pub(crate) fn first_values<I: Iface, L: Ledger>(
     ensures rise { IfOk result (λ r. steps.new ≡ steps.old + r.1) }
     ensures grows { steps.old ≤ steps.new }
 {
+    // `len` and `first_from` tell how many labels there are up to each state.
     let _edges = store.len();
     let mut values = Vec::new(alloc);
     let mut labels = 0u64;
@@ -116,6 +117,7 @@ pub(crate) fn start_blocks<I: Iface>(
     ensures in_range { IfOk result (λ _. (x : ℕ) → x < states_of blocks.new →
         block_at blocks.new x < blocks.new.count) }
 {
+    // Each state's block is below the count, now and after the splits.
     let _one = blocks.blocks();
     let nodes = node_values(iface, alloc, shapes)?;
     let _by_node = split_all(alloc, blocks, nodes.as_slice())?;

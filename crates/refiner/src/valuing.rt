@@ -82,6 +82,7 @@ pub(crate) fn all_values<I: Iface, L: Ledger>(
     ensures high { IfOk result (λ r. r.1 ≤ 3 * length store.now.1) }
     ensures grows { steps.old ≤ steps.new }
 {
+    // `len` and `first_from` tell how many labels there are up to each state.
     let _edges = store.len();
     let mut values = Vec::with_capacity(alloc, shapes.len())?;
     let mut labels = 0u64;

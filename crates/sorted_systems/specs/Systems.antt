@@ -5,7 +5,7 @@
 --     IsSystem                  every target is a state, every structure fits
 --     IsStable, Refines         states of one class agree; one labelling is finer than another
 --     IsGreatestStable          stable, and every stable labelling is finer
---     HasValue                  a state's value, each of its targets having a trit
+--     HasNode, HasValue         a state's node, and its value where each target has a trit
 use Rattle.std.specs.Prelude.{◌≡◌, ◌+◌, ◌<◌, ℕ, List, [], ◌∷◌, length, map, slice_get, slice_index, Some, All}
 use Rattle.modalities.specs.declared.three.Three.{Three}
 use Rattle.iface.specs.Structures.{Classed}
@@ -78,7 +78,13 @@ pub record IsGreatestStable
   pub stable : IsStable agree system b
   pub greatest : (s : List ℕ) → IsStable agree system s → Refines system s b
 
--- the state's value, where each target has this trit
+-- the state has this node
+abbrev pub HasNode :
+    {Shape Label : Type 0} → (Shape → ℕ) → List (Sorted Shape Label) → ℕ → ℕ → Type 0
+HasNode {Shape} {Label} node system x n =
+    (a : Sorted Shape Label) × IsState system x a × (node a.shape ≡ n)
+
+-- the state has this value, where each target has its trit
 abbrev pub HasValue :
     {Shape Label : Type 0} → (Shape → List Label → List ℕ → Three) →
     List (Sorted Shape Label) → (ℕ → ℕ) → ℕ → Three → Type 0

@@ -1,8 +1,7 @@
-use Rattle.std.proofs.Common.{◌≡◌, ◌+◌, ◌*◌, ◌<◌, ◌≤◌, ◌∙◌, ◌++◌, ◌∷◌, [], ℕ, List, length, get_or, ap, sym, refl, subst, arith}
+use Rattle.std.proofs.Common.{◌*◌, ◌≤◌, ◌∙◌, ◌++◌, ◌∷◌, [], length, get_or, ap, sym, refl, subst, arith}
 use Rattle.std.proofs.lemmas.List.{length_push}
-use Rattle.refinable_partition.specs.Blocks.{states_of}
 use Rattle.sorted_systems.specs.Systems.{system_from}
-use Rattle.refiner.specs.History.{Moment, IsRound, size_of}
+use Rattle.refiner.specs.History.{IsRound, size_of}
 use Rattle.refiner.specs.Ready.{moment_at}
 use Rattle.refiner.proofs.Append.{leads_on}
 use Rattle.refiner.proofs.Halves.{half_made}
@@ -21,7 +20,8 @@ loop-x-init g c = record {
       counted = λ y hy. (
           let n = length-system_from 0 c.args.shapes.now c.args.store.now.1 in
           let few : get_or c.args.progress.now.scans.items y 0 ≤ 0 =
-          c.requires.ready.scans_small y 0 (omega (arith, hy, n, c.requires.one_shape, c.requires.ready.one_scan)) in
+          c.requires.ready.scans_small y 0
+          (omega (arith, hy, n, c.requires.one_shape, c.requires.ready.one_scan)) in
           rw c.new-rounds.ensures.items (omega (arith, few)));
     },
   );
@@ -41,7 +41,8 @@ find_torn-requires-clause-nested g c =
     (g.I.Iface.fits c.args.iface.now) (g.I.Iface.value c.args.iface.now)
     (g.I.Iface.agree c.args.iface.now) (g.met.I.Iface.laws c.args.iface.now)
     (system_from 0 c.args.shapes.now c.args.store.now.1) c.requires.system
-    c.requires.starts.0 (moment_at c.args.progress.now) c.requires.starts.1 h.0 c.loop-x.rounds.items
+    c.requires.starts.0 (moment_at c.args.progress.now) c.requires.starts.1 h.0
+    c.loop-x.rounds.items
     h.1.legal p.blocks p.coarse p.numbers.items h.1.here c.loop-x.invariant.ready.numbered
     (c.loop-x.invariant.ready.states ∙ sym c.requires.one_shape ∙ sym n)
 
@@ -54,7 +55,8 @@ one_round-requires-clause-nested g c =
     (g.I.Iface.fits c.args.iface.now) (g.I.Iface.value c.args.iface.now)
     (g.I.Iface.agree c.args.iface.now) (g.met.I.Iface.laws c.args.iface.now)
     (system_from 0 c.args.shapes.now c.args.store.now.1) c.requires.system
-    c.requires.starts.0 (moment_at c.args.progress.now) c.requires.starts.1 h.0 c.loop-x.rounds.items
+    c.requires.starts.0 (moment_at c.args.progress.now) c.requires.starts.1 h.0
+    c.loop-x.rounds.items
     h.1.legal p.blocks p.coarse p.numbers.items h.1.here c.loop-x.invariant.ready.numbered
     (c.loop-x.invariant.ready.states ∙ sym c.requires.one_shape ∙ sym n)
 
@@ -79,11 +81,17 @@ loop-x-preserved g c =
     let p = c.loop-x.progress in
     let after = c.one_round.new.progress in
     let n = length-system_from 0 c.args.shapes.now c.args.store.now.1 in
-    let round : IsRound (g.I.Iface.node c.args.iface.now) (g.I.Iface.value c.args.iface.now) (system_from 0 c.args.shapes.now c.args.store.now.1) (length c.loop-x.rounds.items) (moment_at p) (moment_at after) c.in_ok-round.round =
-    subst (λ k. IsRound (g.I.Iface.node c.args.iface.now) (g.I.Iface.value c.args.iface.now) (system_from 0 c.args.shapes.now c.args.store.now.1) k (moment_at p) (moment_at after) c.in_ok-round.round)
+    let round : IsRound (g.I.Iface.node c.args.iface.now) (g.I.Iface.value c.args.iface.now)
+    (system_from 0 c.args.shapes.now c.args.store.now.1) (length c.loop-x.rounds.items)
+    (moment_at p) (moment_at after) c.in_ok-round.round =
+    subst (λ k. IsRound (g.I.Iface.node c.args.iface.now) (g.I.Iface.value c.args.iface.now)
+    (system_from 0 c.args.shapes.now c.args.store.now.1) k (moment_at p) (moment_at after)
+    c.in_ok-round.round)
     c.loop-x.invariant.number_is c.in_ok-round.ensures.round in
-    let half : 2 * size_of (moment_at p).blocks c.in_ok-round.round.splitter ≤ size_of (moment_at p).coarse c.in_ok-round.round.coarse =
-    half_made p.blocks p.coarse p.numbers.items c.in-Some.x c.in_ok-round.round.splitter c.in_ok-round.round.coarse
+    let half : 2 * size_of (moment_at p).blocks c.in_ok-round.round.splitter ≤ size_of
+    (moment_at p).coarse c.in_ok-round.round.coarse =
+    half_made p.blocks p.coarse p.numbers.items c.in-Some.x c.in_ok-round.round.splitter
+    c.in_ok-round.round.coarse
     c.in-Some.ensures.half c.in_ok-round.ensures.splitter c.in_ok-round.ensures.left in
     record {
       history = (
@@ -96,10 +104,21 @@ loop-x-preserved g c =
             (λ y hy. c.in_ok-round.ensures.scans y (omega (arith, hy, n, c.requires.one_shape)))),
       );
       ready = c.in_ok-round.ensures.ready;
-      number_is = omega (arith, ap length c.in_ok-push.ensures.items, length_push c.loop-x.rounds.items c.in_ok-round.round, c.loop-x.invariant.number_is);
+      number_is = omega (
+        arith,
+        ap length c.in_ok-push.ensures.items,
+        length_push
+            c.loop-x.rounds.items c.in_ok-round.round,
+        c.loop-x.invariant.number_is,
+      );
       few = omega (arith, c.in_ok-round.ensures.one_more, c.loop-x.invariant.few);
       rise = omega (arith, c.in_ok-round.ensures.rise, c.loop-x.invariant.rise);
-      high = omega (arith, c.in_ok-round.ensures.high, c.loop-x.invariant.high, c.requires.few_edges);
+      high = omega (
+        arith,
+        c.in_ok-round.ensures.high,
+        c.loop-x.invariant.high,
+        c.requires.few_edges,
+      );
     }
 
 pub returns-clause-greatest : goal.returns-clause-greatest
@@ -111,6 +130,7 @@ returns-clause-greatest g c =
     (g.I.Iface.fits c.args.iface.now) (g.I.Iface.value c.args.iface.now)
     (g.I.Iface.agree c.args.iface.now) (g.met.I.Iface.laws c.args.iface.now)
     (system_from 0 c.args.shapes.now c.args.store.now.1) c.requires.system
-    c.requires.starts.0 (moment_at c.args.progress.now) c.requires.starts.1 h.0 c.loop-x.rounds.items
+    c.requires.starts.0 (moment_at c.args.progress.now) c.requires.starts.1 h.0
+    c.loop-x.rounds.items
     h.1.legal p.blocks p.coarse p.numbers.items h.1.here c.loop-x.invariant.ready.numbered
     (c.loop-x.invariant.ready.states ∙ sym c.requires.one_shape ∙ sym n) c.in_default.ensures.torn

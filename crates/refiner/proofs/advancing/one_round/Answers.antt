@@ -7,6 +7,7 @@ use Rattle.sorted_systems.specs.Systems.{system_from}
 use Rattle.refiner.specs.declared.history.Split.{Split}
 use Rattle.refiner.specs.Grouping.{AreCut}
 use Rattle.refiner.specs.Waiting.{AddsParents}
+use Rattle.refiner.proofs.Apart.{in_blocks_after}
 use Rattle.refiner.proofs.Ready.{numbers_apart_next, numbers_small_next, scans_small_next}
 use Rattle.refiner.proofs.States.{length-system_from}
 use Rattle.refiner.proofs.RoundMade.{round_made, below_from_all}
@@ -35,13 +36,16 @@ returns-clause-round g c =
     let was : c.index-coarse.result.now ≡ get_or p.numbers.items c.block_of-c.result 0 =
     get_or_read p.numbers.items c.block_of-c.result c.index-coarse.result.now
     (omega (arith, ready.one_number, c.block_of-c.ensures.in_range)) c.index-coarse.ensures 0 in
-    let cut : AreCut c.in_ok-values.values.items p.blocks.count p.blocks c.split_all.new.blocks c.in_ok-splits.splits.items =
-    subst (λ (vs : List Three). AreCut vs p.blocks.count p.blocks c.split_all.new.blocks c.in_ok-splits.splits.items)
+    let cut : AreCut c.in_ok-values.values.items p.blocks.count p.blocks c.split_all.new.blocks
+    c.in_ok-splits.splits.items =
+    subst (λ (vs : List Three). AreCut vs p.blocks.count p.blocks c.split_all.new.blocks
+    c.in_ok-splits.splits.items)
     c.as_slice.ensures.value c.in_ok-splits.ensures in
     round_made (g.I.Iface.node c.args.iface.now) (g.I.Iface.value c.args.iface.now)
     (system_from 0 c.args.shapes.now c.args.store.now.1)
     (λ x a at. below_from_all _ _ (c.requires.system.in_range x a at))
-    p.blocks p.coarse p.numbers.items ready (c.requires.ready.states ∙ sym c.requires.one_shape ∙ sym n)
+    p.blocks p.coarse p.numbers.items ready (c.requires.ready.states ∙ sym c.requires.one_shape
+    ∙ sym n)
     c.requires.nested c.args.number c.block_of-c.result c.args.x c.requires.torn.0
     (record {
       splitter = c.block_of-splitter.result;
@@ -61,19 +65,30 @@ returns-clause-ready g c =
     let was = c.requires.ready in
     let ready = was.numbered in
     let k : ℕ = c.block_of-c.result in
-    let hc : k < length p.numbers.items = omega (arith, ready.one_number, c.block_of-c.ensures.in_range) in
-    let states : length c.split_all.new.blocks.block ≡ c.args.store.now.0 = c.in_ok-splits.ensures.states ∙ was.states in
+    let hc : k < length p.numbers.items =
+    omega (arith, ready.one_number, c.block_of-c.ensures.in_range) in
+    let states : length c.split_all.new.blocks.block ≡ c.args.store.now.0 =
+    c.in_ok-splits.ensures.states ∙ was.states in
     let coarse : length c.take_out.new.coarse.block ≡ length c.split_all.new.blocks.block =
     c.take_out.ensures.states ∙ ready.states ∙ sym c.in_ok-splits.ensures.states in
-    let cut : AreCut c.in_ok-values.values.items p.blocks.count p.blocks c.split_all.new.blocks c.in_ok-splits.splits.items =
-    subst (λ (vs : List Three). AreCut vs p.blocks.count p.blocks c.split_all.new.blocks c.in_ok-splits.splits.items)
+    let cut : AreCut c.in_ok-values.values.items p.blocks.count p.blocks c.split_all.new.blocks
+    c.in_ok-splits.splits.items =
+    subst (λ (vs : List Three). AreCut vs p.blocks.count p.blocks c.split_all.new.blocks
+    c.in_ok-splits.splits.items)
     c.as_slice.ensures.value c.in_ok-splits.ensures in
     record {
       states = states;
       numbered = record {
         states = coarse;
-        in_blocks = λ x hx. omega (arith, c.blocks-live.ensures.in_range x hx, c.blocks-live.ensures.blocks);
-        in_coarse = λ x hx. omega (arith, c.blocks-coarse.ensures.in_range x (omega (arith, coarse)), c.blocks-coarse.ensures.blocks);
+        in_blocks = λ x hx.
+            in_blocks_after c.in_ok-values.values.items p.blocks c.split_all.new.blocks
+            c.in_ok-splits.splits.items cut ready.in_blocks x (omega (arith, hx, cut.states));
+        in_coarse = λ x hx.
+            omega (
+              arith,
+              c.blocks-few.ensures.in_range x (omega (arith, coarse)),
+              c.blocks-few.ensures.blocks,
+            );
         one_number =
             ap length c.in_ok-push.ensures.items
             ∙ omega (
@@ -85,24 +100,35 @@ returns-clause-ready g c =
             );
         numbers_apart =
             rw c.in_ok-push.ensures.items
-            (numbers_apart_next p.numbers.items k c.args.number ready.numbers_apart was.numbers_small hc);
+            (numbers_apart_next p.numbers.items k c.args.number ready.numbers_apart
+            was.numbers_small hc);
       };
       numbers_small =
           rw c.in_ok-push.ensures.items
           (numbers_small_next p.numbers.items k c.args.number was.numbers_small);
-      few = omega (arith, c.blocks-coarse.ensures.few, c.blocks-coarse.ensures.blocks, coarse, states);
+      few = omega (
+        arith,
+        c.blocks-few.ensures.few,
+        c.blocks-few.ensures.blocks,
+        coarse,
+        states,
+      );
       unmarked = cut.unmarked;
       coarse_unmarked = c.take_out.ensures.unmarked;
       one_scan = c.count_scans.ensures.one_each ∙ was.one_scan;
       scans_small =
           scans_small_next p.scans.items c.count_scans.new.scans.items
-          (λ z. block_at p.blocks z == c.block_of-splitter.result) c.args.number c.count_scans.ensures.one_each
-          (λ z hz. c.count_scans.ensures.counted z (omega (arith, hz, was.one_scan, was.states))) was.scans_small;
+          (λ z. block_at p.blocks z == c.block_of-splitter.result) c.args.number
+          c.count_scans.ensures.one_each
+          (λ z hz. c.count_scans.ensures.counted z (omega (arith, hz, was.one_scan, was.states)))
+          was.scans_small;
       waiting =
           waiting_after c.in_ok-values.values.items p.blocks p.coarse c.split_all.new.blocks
           c.take_out.new.coarse c.block_of-splitter.result c.in_ok-splits.splits.items
-          p.waiting.items c.add_waiting.new.waiting.items c.requires.nested ready.states ready.in_blocks
+          p.waiting.items c.add_waiting.new.waiting.items c.requires.nested ready.states
+          ready.in_blocks
           ready.in_coarse c.take_out.ensures.out c.take_out.ensures.one_more cut was.waiting
-          (subst (λ (ss : List Split). AddsParents c.split_all.new.blocks c.take_out.new.coarse ss p.waiting.items c.add_waiting.new.waiting.items)
+          (subst (λ (ss : List Split). AddsParents c.split_all.new.blocks c.take_out.new.coarse ss
+          p.waiting.items c.add_waiting.new.waiting.items)
           c.as_slice-2.ensures.value c.in_ok-add_waiting.ensures);
     }

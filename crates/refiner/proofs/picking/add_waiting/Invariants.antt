@@ -4,4 +4,5 @@ use Rattle.refiner.proofs.picking.add_waiting.Given as goal
 
 abbrev pub invariant-loop-split : goal.invariant-loop-split
 invariant-loop-split l =
-    AddsParents l.blocks l.coarse (take l.split-index l.splits) l.initial.waiting.items l.waiting.items
+    AddsParents l.blocks l.coarse (take l.split-index l.splits) l.initial.waiting.items
+    l.waiting.items

@@ -18,6 +18,7 @@ loop-c-preserved c =
     c.in-Some.ensures (item.0 ∙ ap (λ xs. nat_lt 0 (length xs)) same)
     (λ d. item.4 (omega arith) d ∙ ap (λ xs. get_or xs (length xs - 1) d) same)
     (λ d h. c.pop.ensures.value d (omega arith)
-    ∙ ap (λ n. Some (get_or before (n - 1) d)) (let e : vec_len c.loop-c.waiting ≡ length before = omega arith in e))
+    ∙ ap (λ n. Some (get_or before (n - 1) d)) (let e : vec_len c.loop-c.waiting ≡ length before =
+    omega arith in e))
     c.pop.ensures.items)
     c.in_default-torn_in.ensures c.loop-c.invariant

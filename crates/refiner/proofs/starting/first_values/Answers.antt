@@ -1,4 +1,4 @@
-use Rattle.std.proofs.Common.{◌≡◌, ◌<◌, ◌∙◌, ◌+◌, ℕ, length, map, ap, sym, refl, subst, arith, Some}
+use Rattle.std.proofs.Common.{◌≡◌, ◌<◌, ◌∙◌, length, map, ap, sym, refl, subst, arith, Some}
 use Rattle.std.specs.Prelude.{slice_get}
 use Rattle.std.proofs.lemmas.Option.{slice_get_read, slice_get_within}
 use Rattle.std.proofs.lemmas.List.{length_push}
@@ -11,31 +11,82 @@ use Rattle.refiner.proofs.starting.first_values.Goals as goal
 
 pub init-requires-clause-fit : goal.init-requires-clause-fit
 init-requires-clause-fit g c =
-    let hx : c.loop-x.x < length c.args.shapes.now = omega (arith, c.loop-x-test.true, c.states-x-end.ensures.states, c.requires.one_shape) in
-    let at : slice_get c.args.shapes.now c.loop-x.x ≡ Some c.index-shapes-x.result = slice_get_read c.args.shapes.now (length c.args.shapes.now) c.loop-x.x c.index-shapes-x.result refl hx c.index-shapes-x.is in
-    let is : IsState (system_from 0 c.args.shapes.now c.args.store.now.1) c.loop-x.x (record { shape = c.index-shapes-x.result; labels = labels_from c.args.store.now.1 c.loop-x.x; targets = targets_from c.args.store.now.1 c.loop-x.x }) = state_at_zero c.loop-x.x c.args.shapes.now c.args.store.now.1 c.index-shapes-x.result at in
-    subst (λ ls. g.I.Iface.fits c.args.iface.now c.index-shapes-x.result ls) (sym c.from_state-from.ensures.labels) (c.requires.system.fit c.loop-x.x _ is)
+    let hx : c.loop-x.x < length c.args.shapes.now =
+    omega (arith, c.loop-x-test.true, c.states-x-end.ensures.states, c.requires.one_shape) in
+    let at : slice_get c.args.shapes.now c.loop-x.x ≡ Some c.index-shapes-x.result =
+    slice_get_read c.args.shapes.now (length c.args.shapes.now) c.loop-x.x
+    c.index-shapes-x.result refl hx c.index-shapes-x.is in
+    let is : IsState (system_from 0 c.args.shapes.now c.args.store.now.1) c.loop-x.x
+    (record {
+      shape = c.index-shapes-x.result;
+      labels =
+          labels_from c.args.store.now.1 c.loop-x.x;
+      targets =
+          targets_from c.args.store.now.1 c.loop-x.x;
+    }) = state_at_zero c.loop-x.x c.args.shapes.now
+    c.args.store.now.1 c.index-shapes-x.result at in
+    subst (λ ls. g.I.Iface.fits c.args.iface.now c.index-shapes-x.result ls)
+    (sym c.from_state-from.ensures.labels) (c.requires.system.fit c.loop-x.x _ is)
 
 pub loop-x-preserved : goal.loop-x-preserved
 loop-x-preserved g c =
-    let hx : c.loop-x.x < length c.args.shapes.now = omega (arith, c.loop-x-test.true, c.states-x-end.ensures.states, c.requires.one_shape) in
-    let at : slice_get c.args.shapes.now c.loop-x.x ≡ Some c.index-shapes-x.result = slice_get_read c.args.shapes.now (length c.args.shapes.now) c.loop-x.x c.index-shapes-x.result refl hx c.index-shapes-x.is in
-    let is : IsState (system_from 0 c.args.shapes.now c.args.store.now.1) c.loop-x.x (record { shape = c.index-shapes-x.result; labels = labels_from c.args.store.now.1 c.loop-x.x; targets = targets_from c.args.store.now.1 c.loop-x.x }) = state_at_zero c.loop-x.x c.args.shapes.now c.args.store.now.1 c.index-shapes-x.result at in
-    let value : g.I.Iface.value c.args.iface.now c.index-shapes-x.result (labels_from c.args.store.now.1 c.loop-x.x) (map (λ _. 2) (targets_from c.args.store.now.1 c.loop-x.x)) ≡ c.in_ok-three.three =
-    ap (g.I.Iface.value c.args.iface.now c.index-shapes-x.result (labels_from c.args.store.now.1 c.loop-x.x)) (two_each (targets_from c.args.store.now.1 c.loop-x.x) (labels_from c.args.store.now.1 c.loop-x.x) c.first_from-first.ensures.as_many)
-    ∙ ap (λ ls. g.I.Iface.value c.args.iface.now c.index-shapes-x.result ls (each 2 ls)) (sym c.from_state-from.ensures.labels) ∙ sym c.in_ok-three.ensures.three in
+    let hx : c.loop-x.x < length c.args.shapes.now =
+    omega (arith, c.loop-x-test.true, c.states-x-end.ensures.states, c.requires.one_shape) in
+    let at : slice_get c.args.shapes.now c.loop-x.x ≡ Some c.index-shapes-x.result =
+    slice_get_read c.args.shapes.now (length c.args.shapes.now) c.loop-x.x
+    c.index-shapes-x.result refl hx c.index-shapes-x.is in
+    let is : IsState (system_from 0 c.args.shapes.now c.args.store.now.1) c.loop-x.x
+    (record {
+      shape = c.index-shapes-x.result;
+      labels =
+          labels_from c.args.store.now.1 c.loop-x.x;
+      targets =
+          targets_from c.args.store.now.1 c.loop-x.x;
+    }) = state_at_zero c.loop-x.x c.args.shapes.now
+    c.args.store.now.1 c.index-shapes-x.result at in
+    let value : g.I.Iface.value c.args.iface.now c.index-shapes-x.result
+    (labels_from c.args.store.now.1 c.loop-x.x)
+    (map (λ _. 2) (targets_from c.args.store.now.1 c.loop-x.x)) ≡ c.in_ok-three.three =
+    ap (g.I.Iface.value c.args.iface.now c.index-shapes-x.result
+    (labels_from c.args.store.now.1 c.loop-x.x))
+    (two_each (targets_from c.args.store.now.1 c.loop-x.x)
+    (labels_from c.args.store.now.1 c.loop-x.x) c.first_from-first.ensures.as_many)
+    ∙ ap (λ ls. g.I.Iface.value c.args.iface.now c.index-shapes-x.result ls (each 2 ls))
+    (sym c.from_state-from.ensures.labels) ∙ sym c.in_ok-three.ensures.three in
     record {
-      len = ap length c.in_ok-push.ensures.items ∙ omega (arith, length_push c.loop-x.values.items c.in_ok-three.three, c.loop-x.invariant.len);
-      each = values_more (g.I.Iface.value c.args.iface.now) (system_from 0 c.args.shapes.now c.args.store.now.1) (λ _. 2) c.loop-x.values.items c.push.new.self.items c.loop-x.x c.in_ok-three.three _ c.loop-x.invariant.len c.in_ok-push.ensures.items is value c.loop-x.invariant.each;
+      len = ap length c.in_ok-push.ensures.items
+          ∙ omega (
+            arith,
+            length_push c.loop-x.values.items c.in_ok-three.three,
+            c.loop-x.invariant.len,
+          );
+      each = values_more (g.I.Iface.value c.args.iface.now)
+          (system_from 0 c.args.shapes.now c.args.store.now.1) (λ _. 2) c.loop-x.values.items
+          c.push.new.self.items c.loop-x.x c.in_ok-three.three _ c.loop-x.invariant.len
+          c.in_ok-push.ensures.items is value c.loop-x.invariant.each;
       rise = omega (arith, c.in_ok-three.ensures.counted, c.loop-x.invariant.rise);
-      counted = omega (arith, c.loop-x.invariant.counted, c.first_from-first.ensures.next, c.first_from-first.ensures.first, ap length c.from_state-from.ensures.labels);
+      counted = omega (
+        arith,
+        c.loop-x.invariant.counted,
+        c.first_from-first.ensures.next,
+        c.first_from-first.ensures.first,
+        ap length c.from_state-from.ensures.labels,
+      );
     }
 
 pub returns-clause-values : goal.returns-clause-values
 returns-clause-values g c =
     let n = length-system_from 0 c.args.shapes.now c.args.store.now.1 in
-    let all : c.loop-x.x ≡ length c.args.shapes.now = omega (arith, c.loop-x-test.false, c.states-x-end.ensures.states, c.requires.one_shape) in
+    let all : c.loop-x.x ≡ length c.args.shapes.now =
+    omega (arith, c.loop-x-test.false, c.states-x-end.ensures.states, c.requires.one_shape) in
     record {
       len = c.loop-x.invariant.len ∙ all ∙ sym n;
-      each = λ x a at. c.loop-x.invariant.each x a (omega (arith, slice_get_within (system_from 0 c.args.shapes.now c.args.store.now.1) x a at, n, all)) at;
+      each = λ x a at. c.loop-x.invariant.each x a
+          (omega (
+            arith,
+            slice_get_within (system_from 0 c.args.shapes.now c.args.store.now.1) x a
+                at,
+            n,
+            all,
+          )) at;
     }

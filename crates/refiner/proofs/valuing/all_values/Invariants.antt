@@ -1,4 +1,4 @@
-use Rattle.std.proofs.Common.{◌≡◌, ◌+◌, ◌*◌, ◌<◌, ◌≤◌, ℕ, length, get_or, map}
+use Rattle.std.proofs.Common.{◌≡◌, ◌+◌, ◌*◌, ◌<◌, ◌≤◌, ℕ, length, map}
 use Rattle.edge_store.specs.Edges.{first_of}
 use Rattle.sorted_systems.specs.Systems.{system_from, IsState, Sorted}
 use Rattle.refiner.specs.Grouping.{value_at}
@@ -8,7 +8,9 @@ use Rattle.refiner.proofs.valuing.all_values.Given as goal
 abbrev pub invariant-loop-x : goal.invariant-loop-x
 invariant-loop-x g l = record {
   len : length l.values.items ≡ l.x;
-  each : (k : ℕ) (a : Sorted _ _) → k < l.x → IsState (system_from 0 l.shapes l.store.1) k a → g.I.Iface.value l.iface a.shape a.labels (map (trit_in l.blocks l.coarse l.splitter l.c) a.targets) ≡ value_at l.values.items k;
+  each : (k : ℕ) (a : Sorted _ _) → k < l.x → IsState (system_from 0 l.shapes l.store.1) k a →
+      g.I.Iface.value l.iface a.shape a.labels (map (trit_in l.blocks l.coarse l.splitter l.c)
+      a.targets) ≡ value_at l.values.items k;
   rise : l.steps ≡ l.initial.steps + l.labels;
   high : l.labels ≤ 3 * first_of l.store.1 l.x;
 }

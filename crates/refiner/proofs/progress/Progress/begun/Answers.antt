@@ -1,6 +1,4 @@
-use Rattle.std.proofs.Common.{◌≡◌, ◌∙◌, ℕ, replicate, ap, sym}
-use Rattle.refinable_partition.specs.Blocks.{Blocks}
-use Rattle.refiner.specs.Ready.{IsBegun}
+use Rattle.std.proofs.Common.{◌≡◌, ◌∙◌, replicate, ap}
 use Rattle.refiner.proofs.progress.Progress.begun.Goals as goal
 
 pub returns : goal.returns
@@ -16,6 +14,7 @@ returns c =
       none = λ e. c.in_ok-coarse.ensures.none e;
       one = λ h. c.in_ok-coarse.ensures.one h;
       numbers = c.in_ok-vec.ensures.items_if_clones_equal (λ y e. e) ∙ ap (λ k. replicate k 0) some;
-      waiting = c.in_ok-vec-3.ensures.items_if_clones_equal (λ y e. e) ∙ ap (λ k. replicate k 0) some;
+      waiting = c.in_ok-vec-3.ensures.items_if_clones_equal (λ y e. e)
+          ∙ ap (λ k. replicate k 0) some;
       scans = c.in_ok-vec-2.ensures.items_if_clones_equal (λ y e. e);
     })
