@@ -1,6 +1,6 @@
-use Rattle.std.proofs.Common.{rules, ◌≡◌, ◌++◌, sym, ap, ◌∙◌, subst}
+use Rattle.std.proofs.Common.{◌++◌, sym, ap, ◌∙◌, subst}
 use Rattle.functor_terms.specs.Grammar.{SpellsTerm}
-use Rattle.functor_terms.specs.Text.{text_of_term, within, shown_at}
+use Rattle.functor_terms.specs.Text.{within, shown_at}
 use Rattle.functor_terms.proofs.TermLaws.{term-some}
 use Rattle.functor_terms.proofs.TextLaws.{texts_read_back}
 use Rattle.functor_terms.proofs.TextSteps.{shown-loose}
