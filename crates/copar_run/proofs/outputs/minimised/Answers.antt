@@ -17,18 +17,18 @@ returns c =
       minimal = if_both c.quotient_text.result (λ text. text.items ≡ text_of d.names d.values.items) (λ _. AreNames d.names)
           (λ output. IsMinimal source.term source.names source.values.items output.items)
           (λ output text distinct.
-              is_minimal source.term source.names source.values.items output.items
-              (record {
-                labels = labels;
-                new_names = d.names;
-                new_values = d.values.items;
-                classes = c.in_ok-labels.ensures.classes;
-                quotient = subst (λ b. IsQuotient source.term source.names source.values.items b d.names d.values.items) c.as_slice.ensures.value c.in_ok-d.ensures.quotient;
-                text = text;
-              })
-              c.requires.sets source.one_each
-              (subst (λ n. IsTrue (list_all (states_below n) source.values.items)) (sym source.one_each) source.in_range)
-              distinct
-              c.quotients_are_minimal.ensures c.texts_are_read_back.ensures c.minimal_systems_are_their_own_quotients.ensures c.accepted_files_have_one_reading.ensures.one_reading)
+          is_minimal source.term source.names source.values.items output.items
+          (record {
+            labels = labels;
+            new_names = d.names;
+            new_values = d.values.items;
+            classes = c.in_ok-labels.ensures.classes;
+            quotient = subst (λ b. IsQuotient source.term source.names source.values.items b d.names d.values.items) c.as_slice.ensures.value c.in_ok-d.ensures.quotient;
+            text = text;
+          })
+          c.requires.sets source.one_each
+          (subst (λ n. IsTrue (list_all (states_below n) source.values.items)) (sym source.one_each) source.in_range)
+          distinct
+          c.quotients_are_minimal.ensures c.texts_are_read_back.ensures c.minimal_systems_are_their_own_quotients.ensures c.accepted_files_have_one_reading.ensures.one_reading)
           c.quotient_text.ensures.canonical c.quotient_text.ensures.distinct;
     }
