@@ -1,7 +1,7 @@
 #!/usr/bin/env python3
-"""Times `copar blocks` on made files of sets of states, and prints a table.
+"""Times `copar blocks`, or another command, on made files of sets of states, and prints a table.
 
-usage: bench/blocks.py [--program P] [--seconds S] [--sizes N,N,..] [--kinds K,K,..]
+usage: bench/blocks.py [--program P] [--command C] [--seconds S] [--sizes N,N,..] [--kinds K,K,..]
 
 Kinds, each made anew from a seed: `random` has 1.5 elements a state; `tree` is a full binary tree;
 `alike` has one class, so it is reading and one round; `chain` is one long chain, which takes as many
@@ -39,11 +39,11 @@ def write_file(path, kind, n):
             out.write(f"s{i}: {{{', '.join(f's{t}' for t in targets)}}}\n")
 
 
-def measured(program, path, seconds):
+def measured(program, command, path, seconds):
     """Wall seconds, processor seconds and peak megabytes of one run, or None where it took too long."""
     begun = time.perf_counter()
     with open(os.devnull, "w") as sink:
-        child = subprocess.Popen([program, "blocks", path], stdout=sink,
+        child = subprocess.Popen([program, command, path], stdout=sink,
                                  preexec_fn=lambda: resource.setrlimit(resource.RLIMIT_CPU, (seconds, seconds)))
         _, status, used = os.wait4(child.pid, 0)
     child.returncode = os.waitstatus_to_exitcode(status)
@@ -56,6 +56,7 @@ def main():
     here = os.path.dirname(os.path.abspath(__file__))
     args = argparse.ArgumentParser(description=__doc__, formatter_class=argparse.RawDescriptionHelpFormatter)
     args.add_argument("--program", default=os.path.join(here, "..", "crates", "copar", "out", "copar"))
+    args.add_argument("--command", default="blocks")
     args.add_argument("--seconds", type=int, default=60)
     args.add_argument("--sizes", default="25000,50000,100000,200000")
     args.add_argument("--kinds", default="random,tree,alike,chain")
@@ -68,7 +69,7 @@ def main():
             before = None
             for size in map(int, args.sizes.split(",")):
                 write_file(path, kind, size)
-                run = measured(args.program, path, args.seconds)
+                run = measured(args.program, args.command, path, args.seconds)
                 if run is None:
                     print(f"| {kind} | {size:,} | > {args.seconds} | | | |", flush=True)
                     break
