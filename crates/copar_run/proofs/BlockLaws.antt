@@ -1,5 +1,5 @@
 -- The first equivalent states are blocks.
-use Rattle.std.proofs.Common.{◌≡◌, ℕ, ◌<◌, subst, List, length, sym}
+use Rattle.std.proofs.Common.{ℕ, ◌<◌, subst, List, sym}
 use Rattle.std.specs.Prelude.{slice_index, EachIndex}
 use Rattle.functor_terms.specs.Terms.{Nodes}
 use Rattle.typing.specs.declared.value.Value.{Value}

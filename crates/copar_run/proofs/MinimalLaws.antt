@@ -10,13 +10,13 @@ use Rattle.typing.specs.Fits.{fits}
 use Rattle.typing.specs.Order.{is_normal}
 use Rattle.typing.specs.Stable.{IsStable, AreEquivalent, Refines}
 use Rattle.quotient_writer.specs.Blocks.{first_states}
-use Rattle.quotient_writer.specs.Quotient.{is_numbered, IsQuotient}
+use Rattle.quotient_writer.specs.Quotient.{is_numbered}
 use Rattle.quotient_writer.specs.Laws.{QuotientsAreMinimal, MinimalSystemsAreTheirOwnQuotients}
 use Rattle.quotient_writer.specs.ReadBack.{TextsAreReadBack, AreSets}
 use Rattle.quotient_writer.specs.Texts.{text_of}
 use Rattle.quotient_writer.proofs.ClassLaws.{count, labels-part, labels-join}
 use Rattle.copar_run.specs.Reading.{IsAccepted, OneReading}
-use Rattle.copar_run.specs.Minimal.{AreClasses, IsMinimised, IsMinimisedText, IsMinimal}
+use Rattle.copar_run.specs.Minimal.{AreClasses, IsMinimised, IsMinimal}
 
 -- numbers for the first equivalent states number the classes of equivalence
 pub are_classes : (t : Nodes) (values : List Value) (firsts labels : List ℕ) → IsStable t values firsts

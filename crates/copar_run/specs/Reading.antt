@@ -8,7 +8,7 @@
 -- IsAccepted bytes term ..     == the flat lines have no fault, and denote this coalgebra
 -- OneReading                   == a file denotes one coalgebra at most
 -- AreAccepted bytes            == they denote some coalgebra
-use Rattle.std.specs.Prelude.{◌≡◌, ◌≢◌, ℕ, ◌+◌, List, [], length, Some, None}
+use Rattle.std.specs.Prelude.{◌≡◌, ◌≢◌, ℕ, ◌+◌, List, [], Some, None}
 use Rattle.file_cut.specs.Lines.{lines_of}
 use Rattle.functor_terms.specs.Terms.{Nodes}
 use Rattle.typing.specs.declared.kind.TypeKind.{TypeKind}

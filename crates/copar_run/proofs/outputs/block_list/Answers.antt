@@ -1,4 +1,4 @@
-use Rattle.std.proofs.Common.{◌≡◌, ◌∙◌, sym, ap}
+use Rattle.std.proofs.Common.{◌≡◌, ◌∙◌, ap}
 use Rattle.functor_terms.specs.Words.{AreNames}
 use Rattle.quotient_writer.specs.Blocks.{block_text, first_states}
 use Rattle.copar_run.specs.Blocks.{IsBlockList}

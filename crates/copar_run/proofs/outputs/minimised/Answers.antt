@@ -1,4 +1,4 @@
-use Rattle.std.proofs.Common.{◌≡◌, ◌∙◌, IsTrue, length, sym, subst}
+use Rattle.std.proofs.Common.{◌≡◌, IsTrue, sym, subst}
 use Rattle.std.specs.List.{list_all}
 use Rattle.functor_terms.specs.Words.{AreNames}
 use Rattle.typing.specs.Values.{states_below}
