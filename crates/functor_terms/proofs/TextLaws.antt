@@ -1,6 +1,6 @@
--- The canonical text of a term spells it, and opens no more parentheses than any text of the term.
-use Rattle.std.proofs.Common.{◌≡◌, ℕ, zero, suc, ◌+◌, ◌<◌, ◌≤◌, ◌-◌, ◌⊎◌, List, [], ◌∷◌, ◌++◌, map, Some, Bool, true, false, refl, sym, ap, ◌∙◌, subst, append_assoc, append-nil, arith, inl, inr}
-use Rattle.std.specs.Prelude.{codes, nat_le, if◌then◌else◌}
+-- The canonical text of a term spells it, and opens fewer parentheses than the term has levels.
+use Rattle.std.proofs.Common.{◌≡◌, ℕ, zero, suc, ◌+◌, ◌<◌, ◌≤◌, ◌-◌, ◌⊎◌, List, [], ◌∷◌, ◌++◌, length, map, Some, Bool, true, false, refl, sym, ap, ◌∙◌, subst, append_assoc, append-nil, arith, inl, inr}
+use Rattle.std.specs.Prelude.{codes, nat_le, ◌==◌, if◌then◌else◌, IsTrue}
 use Rattle.std.specs.Char.{is_ascii_digit}
 use Rattle.std.specs.List.{AllByRecursion, flat_map, join_by}
 use Rattle.std.proofs.lemmas.Bool.Decides.{nat_tests}
@@ -9,12 +9,12 @@ use Rattle.functor_terms.specs.declared.node.Node.{Node}
 use Rattle.functor_terms.specs.declared.node.Node.TheVariants.{State, Constant, Naturals, Product, Sum, Power, Powerset, Bag, Distribution, Integers, Rationals}
 use Rattle.functor_terms.specs.declared.sign.Sign.{Sign}
 use Rattle.functor_terms.specs.declared.sign.Sign.TheVariants.{X, P, B, D, N, Z, Q, Plus, Times, Caret, Open, Close}
-use Rattle.functor_terms.specs.Terms.{Part, AreLabels, placed, over}
+use Rattle.functor_terms.specs.Terms.{Part, IsPart, HasLabels, AreLabels, takes, deepest, placed, over}
 use Rattle.functor_terms.specs.Signs.{outside, begins, signs, signs_at}
-use Rattle.functor_terms.specs.Grammar.{prefix_of, weights_of, letter_of, powers, SpellsEach, SpellsExponents, SpellsBase, SpellsPrefix, SpellsPower, SpellsProduct, SpellsSum, SpellsInside, open_limit}
+use Rattle.functor_terms.specs.Grammar.{prefix_of, weights_of, letter_of, powers, SpellsEach, SpellsBase, SpellsPrefix, SpellsSum, SpellsInside, open_limit}
 use Rattle.functor_terms.specs.Grammar.SpellsBase.{weights, letter, constant, group}
-use Rattle.functor_terms.specs.Text.{Shown, shown, prefix_level, power_level, sum_level, level_of, enclosed, within, label_text, node_text, shown_over, shown_at, text_of_term, TextsAreReadBack}
-use Rattle.functor_terms.proofs.TermLaws.{IsBlock, part-block}
+use Rattle.functor_terms.specs.Text.{Shown, shown, prefix_level, power_level, sum_level, level_of, enclosed, within, label_text, node_text, shown_over, shown_at, text_of_term, TextsSpell}
+use Rattle.functor_terms.proofs.TermLaws.{IsBlock, part-block, part-tight}
 use Rattle.functor_terms.proofs.PartFolds.{fold-over}
 use Rattle.functor_terms.proofs.PartLaws.{IsOwnPart, over-own, labels-are, each-part, base-part, prefix-part, power-part, product-part, sum-part, inside-part}
 use Rattle.functor_terms.proofs.GrammarLaws.{base-none}
@@ -264,16 +264,6 @@ power-step n base labels are own made fine =
     (λ rest ends. ap (λ l. Caret ∷ l) (found.lexes rest ends)) (λ rest. refl)))
     (power-push (SpellsInside n) stood.tokens found.tokens base labels stood.spelled found.spelled)
 
-powers-fine : (n : ℕ) (ts : List Sign) (base : Part) (exponents : List LabelSet)
-    → SpellsExponents ts exponents → IsOwnPart base → Fine 1 n base
-    → Fine 1 n (powers base exponents)
-powers-fine n ts base [] spelled own fine = fine
-powers-fine n ts base (labels ∷ others) (front, rest, split, here, behind) own fine =
-    let are = labels-are front labels here in
-    let made = over-own (Power labels) (base ∷ []) refl are (own, tt) in
-    powers-fine n rest (over (Power labels) (base ∷ [])) others behind made
-    (power-step n base labels are own made fine)
-
 -- Chains.
 pub record Joined (level n : ℕ) (between : Sign) (separator : List ℕ)
     (parts : List Part) : Type 0 where
@@ -321,85 +311,121 @@ module _ (level n : ℕ) (between : Sign) (separator : List ℕ)
         each = (stood.tokens, joined.tokens, refl, stood.spelled, joined.each);
       }
 
-each-stood : (level n : ℕ) (between : Sign) (Spells : List Sign → Part → Type 0)
-    → ((ts : List Sign) (x : Part) → Spells ts x → Stood level n x)
-    → (ts : List Sign) (parts : List Part) → SpellsEach between Spells ts parts
+-- grouped parts stand, in parentheses where their level is too high
+each-stood : (level n : ℕ) (parts : List Part) → AllByRecursion (Grouped n) parts
     → AllByRecursion (Stood level n) parts
-each-stood level n between Spells stood ts [] each = absurd each
-each-stood level n between Spells stood ts (x ∷ []) each = (stood ts x each, tt)
-each-stood level n between Spells stood ts (x ∷ y ∷ xs) (front, behind, split, first, others) =
-    (stood front x first, each-stood level n between Spells stood behind (y ∷ xs) others)
+each-stood level n [] grouped = tt
+each-stood level n (x ∷ xs) grouped =
+    (stand level n x (fine-grouped level n x grouped.0), each-stood level n xs grouped.1)
 
--- The forms, where what stands in parentheses is grouped.
-module _ (n : ℕ) (inside : (ts : List Sign) (x : Part) → SpellsInside n ts x → Grouped n x) where
-  base-fine : (ts : List Sign) (x : Part) → SpellsBase (SpellsInside n) ts x → Fine 0 n x
-  base-fine ts x (weights t node inner child is stands spelled made) =
-      let own = base-part (SpellsInside n) (inside-part n) ts x
-      (weights t node inner child is stands spelled made) in
-      subst (Fine 0 n) (sym made) (weights-fine n t node child stands
-      (inside-part n inner child spelled) (subst IsOwnPart made own)
-      (inside inner child spelled))
-  base-fine ts x (letter t node is stands made) =
-      let own = base-part (SpellsInside n) (inside-part n) ts x (letter t node is stands made) in
-      subst (Fine 0 n) (sym made) (letter-fine n t node stands (subst IsOwnPart made own))
-  base-fine ts x (constant labels spelled made) =
-      let own = base-part (SpellsInside n) (inside-part n) ts x (constant labels spelled made) in
-      subst (Fine 0 n) (sym made) (constant-fine n labels (labels-are ts labels spelled)
-      (subst IsOwnPart made own))
-  base-fine ts x (group inner is spelled) = fine-grouped 0 n x (inside inner x spelled)
+-- a chain over grouped parts
+chain-joined : (level n : ℕ) (between : Sign) (separator : List ℕ)
+    → ((rest : List ℕ) → signs_at outside (separator ++ rest) ≡ between ∷ signs_at outside rest)
+    → ((rest : List ℕ) → begins is_ascii_digit (separator ++ rest) ≡ false)
+    → (x : Part) (xs : List Part) → AllByRecursion (Grouped n) (x ∷ xs)
+    → Joined level n between separator (x ∷ xs)
+chain-joined level n between separator separates starts x xs grouped =
+    let stood = each-stood level n (x ∷ xs) grouped in
+    join level n between separator separates starts x xs stood.0 stood.1
 
-  prefixed-fine : (ts : List Sign) (x : Part) → SpellsPrefix (SpellsInside n) ts x → Fine 0 n x
-  prefixed-fine [] x spelled = absurd spelled
-  prefixed-fine (t ∷ ts) x (inl spelled) = base-fine (t ∷ ts) x spelled
-  prefixed-fine (t ∷ ts) x (inr (node, child, stands, spelled, made)) =
-      let own = prefix-part (SpellsInside n) (inside-part n) (t ∷ ts) x
-      (inr (node, child, stands, spelled, made)) in
-      subst (Fine 0 n) (sym made) (prefix-fine n t node child stands
-      (prefix-part (SpellsInside n) (inside-part n) ts child spelled)
-      (subst IsOwnPart made own) (stand 0 n child (prefixed-fine ts child spelled)))
+-- what a test of a number of children says
+no-child : (n : ℕ) → IsTrue (n == 0) → n ≡ 0
+no-child n e = grind (arith, nat_tests)
 
-  power-fine : (ts : List Sign) (x : Part) → SpellsPower (SpellsInside n) ts x → Fine 1 n x
-  power-fine ts x (front, rest, base, exponents, split, spelled, raised, made) =
-      subst (Fine 1 n) (sym made) (powers-fine n rest base exponents raised
-      (prefix-part (SpellsInside n) (inside-part n) front base spelled)
-      (fine-up 0 1 n base (omega arith) (prefixed-fine front base spelled)))
+one-child : (n : ℕ) → IsTrue (n == 1) → n ≡ 1
+one-child n e = grind (arith, nat_tests)
 
-  product-fine : (ts : List Sign) (x : Part) → SpellsProduct (SpellsInside n) ts x → Fine 2 n x
-  unfolding signs_at
-  product-fine ts x (inl spelled) = fine-up 1 2 n x (omega arith) (power-fine ts x spelled)
-  product-fine ts x (inr ([], two, each, made)) = absurd each
-  product-fine ts x (inr (y ∷ ys, two, each, made)) =
-      let own = product-part (SpellsInside n) (inside-part n) ts x
-      (inr (y ∷ ys, two, each, made)) in
-      let stood = each-stood 1 n Times (SpellsPower (SpellsInside n))
-      (λ ts x spelled. stand 1 n x (power-fine ts x spelled)) ts (y ∷ ys) each in
-      let joined = join 1 n Times (codes " x ") (λ rest. refl)
-      (λ rest. refl) y ys stood.0 stood.1 in
-      subst (Fine 2 n) (sym made)
-      (build n Product (y ∷ ys) (each-part Times (SpellsPower (SpellsInside n))
-      (power-part (SpellsInside n) (inside-part n)) ts (y ∷ ys) each)
-      (subst IsOwnPart made own) joined.tokens joined.lexes
-      (inr (y ∷ ys, two, joined.each, refl)))
+two-children : (n : ℕ) → IsTrue (nat_le 2 n) → 2 ≤ n
+two-children n e = grind (arith, nat_tests)
 
-  sum-fine : (ts : List Sign) (x : Part) → SpellsSum (SpellsInside n) ts x → Fine 3 n x
-  unfolding signs_at
-  sum-fine ts x (inl spelled) = fine-up 2 3 n x (omega arith) (product-fine ts x spelled)
-  sum-fine ts x (inr ([], two, each, made)) = absurd each
-  sum-fine ts x (inr (y ∷ ys, two, each, made)) =
-      let own = sum-part (SpellsInside n) (inside-part n) ts x (inr (y ∷ ys, two, each, made)) in
-      let stood = each-stood 2 n Plus (SpellsProduct (SpellsInside n))
-      (λ ts x spelled. stand 2 n x (product-fine ts x spelled)) ts (y ∷ ys) each in
-      let joined = join 2 n Plus (codes " + ") (λ rest. refl) (λ rest. refl) y ys stood.0 stood.1 in
-      subst (Fine 3 n) (sym made)
-      (build n Sum (y ∷ ys) (each-part Plus (SpellsProduct (SpellsInside n))
-      (product-part (SpellsInside n) (inside-part n)) ts (y ∷ ys) each)
-      (subst IsOwnPart made own) joined.tokens joined.lexes
-      (inr (y ∷ ys, two, joined.each, refl)))
+-- a node over grouped parts, as many as it takes
+node-good : (n : ℕ) (node : Node) (parts : List Part) → IsTrue (takes node (length parts))
+    → HasLabels node → AllByRecursion IsOwnPart parts → AllByRecursion (Grouped n) parts
+    → Good n (over node parts)
+unfolding signs_at
+node-good n State [] arity labels own grouped =
+    (letter-fine n X State refl (over-own State [] arity labels own)).0
+node-good n State (x ∷ xs) arity labels own grouped =
+    absurd (omega (arith, no-child (length (x ∷ xs)) arity))
+node-good n (Constant ls) [] arity labels own grouped =
+    (constant-fine n ls labels (over-own (Constant ls) [] arity labels own)).0
+node-good n (Constant ls) (x ∷ xs) arity labels own grouped =
+    absurd (omega (arith, no-child (length (x ∷ xs)) arity))
+node-good n Naturals [] arity labels own grouped =
+    (letter-fine n N Naturals refl (over-own Naturals [] arity labels own)).0
+node-good n Naturals (x ∷ xs) arity labels own grouped =
+    absurd (omega (arith, no-child (length (x ∷ xs)) arity))
+node-good n Product [] arity labels own grouped = absurd (omega (arith, two-children 0 arity))
+node-good n Product (x ∷ xs) arity labels own grouped =
+    let joined = chain-joined 1 n Times (codes " x ") (λ rest. refl) (λ rest. refl) x xs grouped in
+    let two = two-children (length (x ∷ xs)) arity in
+    (build n Product (x ∷ xs) own (over-own Product (x ∷ xs) arity labels own)
+    joined.tokens joined.lexes (inr (x ∷ xs, two, joined.each, refl))).0
+node-good n Sum [] arity labels own grouped = absurd (omega (arith, two-children 0 arity))
+node-good n Sum (x ∷ xs) arity labels own grouped =
+    let joined = chain-joined 2 n Plus (codes " + ") (λ rest. refl) (λ rest. refl) x xs grouped in
+    let two = two-children (length (x ∷ xs)) arity in
+    (build n Sum (x ∷ xs) own (over-own Sum (x ∷ xs) arity labels own)
+    joined.tokens joined.lexes (inr (x ∷ xs, two, joined.each, refl))).0
+node-good n (Power ls) [] arity labels own grouped = absurd (omega (arith, one-child 0 arity))
+node-good n (Power ls) (x ∷ []) arity labels own grouped =
+    (power-step n x ls labels own.0 (over-own (Power ls) (x ∷ []) arity labels own)
+    (fine-grouped 1 n x grouped.0)).0
+node-good n (Power ls) (x ∷ y ∷ xs) arity labels own grouped =
+    absurd (omega (arith, one-child (length (x ∷ y ∷ xs)) arity))
+node-good n Powerset [] arity labels own grouped = absurd (omega (arith, one-child 0 arity))
+node-good n Powerset (x ∷ []) arity labels own grouped =
+    (prefix-fine n P Powerset x refl own.0 (over-own Powerset (x ∷ []) arity labels own)
+    (stand 0 n x (fine-grouped 0 n x grouped.0))).0
+node-good n Powerset (x ∷ y ∷ xs) arity labels own grouped =
+    absurd (omega (arith, one-child (length (x ∷ y ∷ xs)) arity))
+node-good n Bag [] arity labels own grouped = absurd (omega (arith, one-child 0 arity))
+node-good n Bag (x ∷ []) arity labels own grouped =
+    (prefix-fine n B Bag x refl own.0 (over-own Bag (x ∷ []) arity labels own)
+    (stand 0 n x (fine-grouped 0 n x grouped.0))).0
+node-good n Bag (x ∷ y ∷ xs) arity labels own grouped =
+    absurd (omega (arith, one-child (length (x ∷ y ∷ xs)) arity))
+node-good n Distribution [] arity labels own grouped = absurd (omega (arith, one-child 0 arity))
+node-good n Distribution (x ∷ []) arity labels own grouped =
+    (prefix-fine n D Distribution x refl own.0 (over-own Distribution (x ∷ []) arity labels own)
+    (stand 0 n x (fine-grouped 0 n x grouped.0))).0
+node-good n Distribution (x ∷ y ∷ xs) arity labels own grouped =
+    absurd (omega (arith, one-child (length (x ∷ y ∷ xs)) arity))
+node-good n Integers [] arity labels own grouped = absurd (omega (arith, one-child 0 arity))
+node-good n Integers (x ∷ []) arity labels own grouped =
+    (weights-fine n Z Integers x refl own.0 (over-own Integers (x ∷ []) arity labels own)
+    grouped.0).0
+node-good n Integers (x ∷ y ∷ xs) arity labels own grouped =
+    absurd (omega (arith, one-child (length (x ∷ y ∷ xs)) arity))
+node-good n Rationals [] arity labels own grouped = absurd (omega (arith, one-child 0 arity))
+node-good n Rationals (x ∷ []) arity labels own grouped =
+    (weights-fine n Q Rationals x refl own.0 (over-own Rationals (x ∷ []) arity labels own)
+    grouped.0).0
+node-good n Rationals (x ∷ y ∷ xs) arity labels own grouped =
+    absurd (omega (arith, one-child (length (x ∷ y ∷ xs)) arity))
 
-inside-grouped : (n : ℕ) (ts : List Sign) (x : Part) → SpellsInside n ts x → Grouped n x
-unfolding SpellsInside
-inside-grouped zero ts x spelled = absurd spelled
-inside-grouped (suc n) ts x spelled = (n, refl, (sum-fine n (inside-grouped n) ts x spelled).0)
+-- what holds of each of these holds of each
+each-weaker : (R S : Part → Type 0) → ((x : Part) → R x → S x) → (parts : List Part)
+    → AllByRecursion R parts → AllByRecursion S parts
+each-weaker R S weaker [] all = tt
+each-weaker R S weaker (x ∷ xs) all = (weaker x all.0, each-weaker R S weaker xs all.1)
+
+over-good : (n : ℕ) → ((x : Part) → IsPart n x → Grouped n x) → (x : Part) → IsPart (suc n) x
+    → Good n x
+unfolding IsPart
+over-good n grouped x (node, parts, arity, labels, each, made) =
+    subst (Good n) (sym made) (node-good n node parts arity labels
+    (each-weaker (IsPart n) IsOwnPart (part-tight n) parts each)
+    (each-weaker (IsPart n) (Grouped n) grouped parts each))
+
+part-none : (x : Part) → IsPart 0 x → Grouped 0 x
+unfolding IsPart
+part-none x is = absurd is
+
+-- the text of a part of at most n + 1 levels spells it, and opens at most n parentheses
+part-good : (n : ℕ) (x : Part) → IsPart (suc n) x → Good n x
+part-good zero = over-good 0 part-none
+part-good (suc n) = over-good (suc n) (λ x is. (n, refl, part-good n x is))
 
 -- the text of a part spells it
 part-shown : (n : ℕ) (x : Part) → Good n x → SpellsSum (SpellsInside n)
@@ -415,18 +441,34 @@ part-shown n x good =
     (level-up (SpellsInside n) good.seen.level 3
     (3 - good.seen.level) sums good.tokens x good.spelled)
 
--- where some text spells a term, its canonical text spells it
-pub texts_read_back : TextsAreReadBack
-texts_read_back text t spelled =
-    let good = (sum-fine open_limit (inside-grouped open_limit)
-    (signs text) spelled.part spelled.spelled).0 in
-    let shown_is : text_of_term t ≡ (shown_part spelled.part).text =
-    ap text_of_term spelled.numbered in
+all-shallow : (n : ℕ) → ((x : Part) → IsPart n x → x.1 ≤ n) → (parts : List Part)
+    → AllByRecursion (IsPart n) parts → deepest parts ≤ n
+all-shallow n shallow [] all = omega arith
+all-shallow n shallow (x ∷ xs) all =
+    let here = shallow x all.0 in
+    let behind = all-shallow n shallow xs all.1 in
+    omega (arith, here, behind)
+
+-- a part is no deeper than it is built
+part-shallow : (n : ℕ) (x : Part) → IsPart n x → x.1 ≤ n
+unfolding IsPart
+part-shallow zero x is = absurd is
+part-shallow (suc n) x (node, parts, arity, labels, each, made) =
+    let below = all-shallow n (part-shallow n) parts each in
+    let depth : x.1 ≡ deepest parts + 1 = ap (λ (y : Part). y.1) made in
+    omega (arith, below, depth)
+
+-- the canonical text of a term spells it
+pub texts_spell : TextsSpell
+texts_spell t is =
+    let built : IsPart 32 is.part = is.within.built in
+    let good : Good open_limit is.part = good-more 31 is.part (part-good 31 is.part built) in
+    let shown_is : text_of_term t ≡ (shown_part is.part).text = ap text_of_term is.numbered in
     record {
-      part = spelled.part;
-      spelled = subst (λ l. SpellsSum (SpellsInside open_limit) (signs l) spelled.part)
-          (sym shown_is) (part-shown open_limit spelled.part good);
-      shallow = spelled.shallow;
-      few = spelled.few;
-      numbered = spelled.numbered;
+      part = is.part;
+      spelled = subst (λ l. SpellsSum (SpellsInside open_limit) (signs l) is.part)
+          (sym shown_is) (part-shown open_limit is.part good);
+      shallow = part-shallow 32 is.part built;
+      few = is.within.few;
+      numbered = is.numbered;
     }

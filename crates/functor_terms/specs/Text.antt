@@ -18,10 +18,10 @@
 -- label_text       == the text of labels
 -- node_text        == the text of a node over those of its children
 -- text_of_term     == the text of a term
--- TextsAreReadBack == where a term has a text, its canonical text spells it
+-- TextsSpell       == the canonical text of a term spells it
 use Rattle.std.specs.Prelude.{ℕ, List, [], ◌∷◌, ◌++◌, nat_le, codes, decimal, if◌then◌else◌}
 use Rattle.std.specs.List.{join_by}
-use Rattle.functor_terms.specs.Terms.{Nodes, fold}
+use Rattle.functor_terms.specs.Terms.{Nodes, IsTerm, fold}
 use Rattle.functor_terms.specs.Grammar.{SpellsTerm}
 use Rattle.functor_terms.specs.declared.node.LabelSet.{LabelSet}
 use Rattle.functor_terms.specs.declared.node.LabelSet.TheVariants.{Listed, Below}
@@ -105,7 +105,6 @@ shown_at t p = fold (shown prefix_level []) shown_over t p
 abbrev pub text_of_term : Nodes → List ℕ
 text_of_term t = (shown_at t 0).text
 
--- where some text spells a term, its canonical text spells it
-abbrev pub TextsAreReadBack : Type 0
-TextsAreReadBack =
-    (text : List ℕ) (t : Nodes) → SpellsTerm text t → SpellsTerm (text_of_term t) t
+-- the canonical text of a term spells it
+abbrev pub TextsSpell : Type 0
+TextsSpell = (t : Nodes) → IsTerm t → SpellsTerm (text_of_term t) t

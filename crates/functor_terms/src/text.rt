@@ -181,8 +181,7 @@ fn push_within(text: &mut Vec<u8>, level: u32, term: &Term, p: u32) -> Result<()
 /// The canonical text of a term.
 pub fn term_text(alloc: Global, term: &Term) -> Result<Vec<u8>, AllocError>
     ensures text { IfOk result (λ text. text.items ≡ text_of_term term.now) }
-    ensures read_back { IfOk result (λ text.
-        (line : List ℕ) → SpellsTerm line term.now → SpellsTerm text.items term.now) }
+    ensures spells { IfOk result (λ text. SpellsTerm text.items term.now) }
 {
     // each node has a byte at least
     let mut text = Vec::with_capacity(alloc, term.len() as usize)?;

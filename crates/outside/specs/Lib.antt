@@ -4,3 +4,4 @@ pub mod Writes
 pub mod FolderState
 pub mod SinkState
 pub mod Files
+pub mod Whole

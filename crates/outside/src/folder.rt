@@ -47,5 +47,7 @@ pub trait Folder {
         ensures files_stay { files self.new ≡ files self.old }
         ensures no_count_falls { (other : List ℕ) → faults self.old other ≤ faults self.new other }
         ensures failure_is_counted { result ≡ Piece.Failed →
-            Rose (faults self.old name.now) (faults self.new name.now) };
+            Rose (faults self.old name.now) (faults self.new name.now) }
+        ensures success_counts_nothing { result ≢ Piece.Failed →
+            (other : List ℕ) → faults self.new other ≡ faults self.old other };
 }

@@ -1,5 +1,5 @@
 // A sink of bytes, written piece by piece.
-ghost use Rattle.std.specs.Prelude.{◌≡◌, ◌<◌, ◌≤◌, ℕ, List, length, Option};
+ghost use Rattle.std.specs.Prelude.{◌≡◌, ◌≢◌, ◌<◌, ◌≤◌, ℕ, List, length, Option};
 ghost use Rattle.std.specs.Io.KnownBytes.{append_known};
 ghost use Rattle.outside.specs.Faults.{Rose};
 ghost use Rattle.outside.specs.Writes.{TookWithin, part_taken};
@@ -32,5 +32,7 @@ pub trait Sink {
             append_known (taken self.old) (part_taken result bytes.now) }
         ensures no_count_falls { faults self.old ≤ faults self.new }
         ensures failure_is_counted { result ≡ Wrote.Failed →
-            Rose (faults self.old) (faults self.new) };
+            Rose (faults self.old) (faults self.new) }
+        ensures success_counts_nothing { result ≢ Wrote.Failed →
+            faults self.new ≡ faults self.old };
 }

@@ -18,7 +18,7 @@ pub fn blocks_text(alloc: Global, names: &Names, labels: &[u32]) -> Result<Vec<u
 {
     let states = names.len();
     let firsts = first_of_each(alloc, states, labels)?;
-    let mut text = Vec::with_capacity(alloc, text_len(names, firsts.as_slice(), labels))?;
+    let mut text = Vec::new(alloc);
     for i in 0..states {
         let first = firsts[labels[i as usize] as usize];
         push_line(&mut text, names.name(i), names.name(first))?;
@@ -44,22 +44,6 @@ fn first_of_each(alloc: Global, states: u32, labels: &[u32]) -> Result<Vec<u32>,
         }
     }
     Ok(firsts)
-}
-
-/// How many bytes the text has. It serves to take the memory at once.
-fn text_len(names: &Names, firsts: &[u32], labels: &[u32]) -> usize
-    requires states { EachIndex firsts.now (λ i. slice_index firsts.now i < length names.now) }
-    requires classes { EachIndex labels.now (λ i. slice_index labels.now i < length firsts.now) }
-{
-    let mut len = 0usize;
-    for i in 0..names.len() {
-        len = len.saturating_add(names.name(i).len());
-    }
-    for label in labels {
-        let class = names.name(firsts[*label as usize]);
-        len = len.saturating_add(class.len()).saturating_add(2);
-    }
-    len
 }
 
 /// Puts the line of a state last.

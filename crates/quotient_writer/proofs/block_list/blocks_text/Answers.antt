@@ -5,7 +5,7 @@ use Rattle.quotient_writer.proofs.TextLaws.{lines-none, line-more}
 use Rattle.quotient_writer.proofs.block_list.blocks_text.Goals as goal
 
 pub loop-i-init : goal.loop-i-init
-loop-i-init c = c.in_ok-text.ensures.items ∙ sym (lines-none c.args.names.now)
+loop-i-init c = c.new-text.ensures.items ∙ sym (lines-none c.args.names.now)
 
 pub loop-i-preserved : goal.loop-i-preserved
 loop-i-preserved c =

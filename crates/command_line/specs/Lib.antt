@@ -1,0 +1,5 @@
+pub mod Parser
+pub mod Lines
+pub mod Requests
+pub mod Plain
+pub mod Asked
