@@ -1,6 +1,7 @@
 -- What words ask for.
 --
 -- Request             == what is asked for, with one case for each command
+-- file_of request     == the name of the first file that is read
 -- request_of line     == the request of a line, by the table of commands
 -- asked words         == the request that the words make, if they make one
 -- Asks words request  == the words make this request
@@ -13,6 +14,11 @@ use Rattle.command_line.specs.Lines.{Line, line_of}
 pub data Request : Type 0 where
   Blocks : (file : List ℕ) → Request
   Minimise : (file : List ℕ) → Request
+
+-- the name of the first file that is read
+abbrev pub file_of : Request → List ℕ
+file_of (Request.Blocks file) = file
+file_of (Request.Minimise file) = file
 
 -- a request that takes no word behind its file
 abbrev pub if_none : List (List ℕ) → Request → Option Request

@@ -2,7 +2,7 @@
 ghost use Rattle.std.specs.Prelude.{◌≡◌, map, option_map, IfOk};
 ghost use Rattle.command_line.specs.Asked.{denoted};
 ghost use Rattle.command_line.specs.Plain.{line_with};
-ghost use Rattle.command_line.specs.Requests.{asked, request_of as the_request_of};
+ghost use Rattle.command_line.specs.Requests.{asked, file_of, request_of as the_request_of};
 
 use crate::WordList;
 use crate::parts::{Line, parts_of};
@@ -16,6 +16,18 @@ pub enum Request<'a> {
     Blocks { file: &'a str },
     /// The quotient by the blocks.
     Minimise { file: &'a str },
+}
+
+impl<'a> Request<'a> {
+    /// The name of the first file that is read.
+    pub fn file(&self) -> &'a str
+        ensures { result.now ≡ file_of (denoted self.now) }
+    {
+        match self {
+            Request::Blocks { file } => *file,
+            Request::Minimise { file } => *file,
+        }
+    }
 }
 
 /// The request of a line, by the table of commands. An empty word is of no row.

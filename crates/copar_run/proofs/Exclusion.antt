@@ -1,6 +1,6 @@
 -- The causes of faults in a file exclude each other, since the rows of a file are determined by its
 -- lines.
-use Rattle.std.proofs.Common.{◌≡◌, ◌⊎◌, inl, inr, ℕ, List, [], ◌∷◌, ◌++◌, length, map, refl, ap, sym, ◌∙◌, arith, Option, Some, None, is_some, true≢false}
+use Rattle.std.proofs.Common.{◌≡◌, ℕ, List, [], ◌∷◌, ◌++◌, length, map, refl, ap, sym, ◌∙◌, arith, Option, Some, None, is_some, true≢false}
 use Rattle.std.specs.List.{AllZip}
 use Rattle.file_cut.specs.Lines.{Numbered, lines_of}
 use Rattle.file_cut.specs.Tokens.{marks}
@@ -9,10 +9,8 @@ use Rattle.file_cut.specs.declared.mark.Mark.TheVariants.{Word, CloseBrace}
 use Rattle.typing.specs.declared.kind.TypeKind.{TypeKind}
 use Rattle.flat_files.specs.declared.row.Row.{Row}
 use Rattle.flat_files.specs.Rows.{between_commas, IsRowOf, AreRows, fault_of}
-use Rattle.copar_run.specs.declared.status.Status.{Status}
-use Rattle.copar_run.specs.declared.status.Status.TheVariants.{Done, Usage, Grammar, TypeFault, ReadFault, WriteFault, NoMemory, TooLong, NotBuilt}
-use Rattle.copar_run.specs.Reading.{IsMisfit, AreAccepted}
-use Rattle.copar_run.specs.Outcome.{Says, IsFileFault}
+use Rattle.typing.specs.Contents.{Content}
+use Rattle.copar_run.specs.Reading.{Reads, Fault, IsFault}
 
 -- the words among tokens, in order
 abbrev words_among : List Mark → List (List ℕ)
@@ -64,78 +62,27 @@ same_rows bytes rows others e f =
 pub lacks_rows : (bytes : List ℕ) (rows : List Row) → lines_of bytes ≡ [] → AreRows bytes rows → ⊥
 lacks_rows bytes rows none e = omega (arith, ap length (sym none ∙ e.lines))
 
--- the status of a first fault
-abbrev fault_status : Option (ℕ × TypeKind) → Status
-fault_status None = Done
-fault_status (Some fault) = TypeFault fault.0 fault.1
+-- a first fault of rows as one of the file
+abbrev as_fault : Option (ℕ × TypeKind) → Fault
+as_fault None = Fault.Unbuilt
+as_fault (Some fault) = Fault.Misfit fault.0 fault.1
 
--- rows with a first fault have one alone
-one_fault : (bytes : List ℕ) (line other : ℕ) (kind another : TypeKind) → IsMisfit bytes line kind
-    → IsMisfit bytes other another → TypeFault other another ≡ TypeFault line kind
-one_fault bytes line other kind another e f =
-    ap fault_status (sym f.2 ∙ ap fault_of (same_rows bytes f.0 e.0 f.1 e.1) ∙ e.2)
+-- the first fault of bytes is one
+pub one_fault : (bytes : List ℕ) (f g : Fault) → IsFault bytes f → IsFault bytes g → g ≡ f
+one_fault bytes (Fault.NoFunctor line) (Fault.NoFunctor other) e h = ap Fault.NoFunctor (h.1 ∙ sym e.1)
+one_fault bytes (Fault.NoFunctor line) (Fault.Misfit other kind) e h = absurd (lacks_rows bytes h.0 e.0 h.1)
+one_fault bytes (Fault.NoFunctor line) Fault.Unbuilt e h = absurd (h.0 e.0)
+one_fault bytes (Fault.Misfit line kind) (Fault.NoFunctor other) e h = absurd (lacks_rows bytes e.0 h.0 e.1)
+one_fault bytes (Fault.Misfit line kind) (Fault.Misfit other another) e h =
+    ap as_fault (sym h.2 ∙ ap fault_of (same_rows bytes h.0 e.0 h.1 e.1) ∙ e.2)
+one_fault bytes (Fault.Misfit line kind) Fault.Unbuilt e h = absurd (h.1 e.0 e.1)
+one_fault bytes Fault.Unbuilt (Fault.NoFunctor other) e h = absurd (e.0 h.0)
+one_fault bytes Fault.Unbuilt (Fault.Misfit other kind) e h = absurd (e.1 h.0 h.1)
+one_fault bytes Fault.Unbuilt Fault.Unbuilt e h = refl
 
--- accepted rows have no fault
-pub no_fault : (bytes : List ℕ) (line : ℕ) (kind : TypeKind) → AreAccepted bytes → IsMisfit bytes line kind → ⊥
-no_fault bytes line kind a e =
-    true≢false (sym (ap is_some (sym a.3.fitting ∙ ap fault_of (same_rows bytes a.3.rows e.0 a.3.flat e.1) ∙ e.2)))
-
--- the status is the fault, or one that any file may have
-abbrev IsNoOther : Status → Status → Type 0
-IsNoOther fault status = (status ≡ fault) ⊎ ((status ≡ ReadFault) ⊎ (status ≡ NoMemory))
-
-for_grammar : (bytes : List ℕ) (line : ℕ) → Says bytes (Grammar line) → (status : Status) → Says bytes status → IsNoOther (Grammar line) status
-for_grammar bytes line e Done s = absurd (lacks_rows bytes _ e.1.0 s.1.3.flat)
-for_grammar bytes line e Usage s = absurd s
-for_grammar bytes line e (Grammar other) s = inl (ap Grammar (s.1.1 ∙ sym e.1.1))
-for_grammar bytes line e (TypeFault other kind) s = absurd (lacks_rows bytes s.1.0 e.1.0 s.1.1)
-for_grammar bytes line e ReadFault s = inr (inl refl)
-for_grammar bytes line e WriteFault s = absurd (lacks_rows bytes _ e.1.0 s.1.3.flat)
-for_grammar bytes line e NoMemory s = inr (inr refl)
-for_grammar bytes line e TooLong s = absurd (omega (arith, e.0, s))
-for_grammar bytes line e NotBuilt s = absurd (s.1.0 e.1.0)
-
-for_misfit : (bytes : List ℕ) (line : ℕ) (kind : TypeKind) → Says bytes (TypeFault line kind) → (status : Status) → Says bytes status → IsNoOther (TypeFault line kind) status
-for_misfit bytes line kind e Done s = absurd (no_fault bytes line kind s.1 e.1)
-for_misfit bytes line kind e Usage s = absurd s
-for_misfit bytes line kind e (Grammar other) s = absurd (lacks_rows bytes e.1.0 s.1.0 e.1.1)
-for_misfit bytes line kind e (TypeFault other another) s = inl (one_fault bytes line other kind another e.1 s.1)
-for_misfit bytes line kind e ReadFault s = inr (inl refl)
-for_misfit bytes line kind e WriteFault s = absurd (no_fault bytes line kind s.1 e.1)
-for_misfit bytes line kind e NoMemory s = inr (inr refl)
-for_misfit bytes line kind e TooLong s = absurd (omega (arith, e.0, s))
-for_misfit bytes line kind e NotBuilt s = absurd (s.1.1 e.1.0 e.1.1)
-
-for_too_long : (bytes : List ℕ) → Says bytes TooLong → (status : Status) → Says bytes status → IsNoOther TooLong status
-for_too_long bytes e Done s = absurd (omega (arith, e, s.0))
-for_too_long bytes e Usage s = absurd s
-for_too_long bytes e (Grammar other) s = absurd (omega (arith, e, s.0))
-for_too_long bytes e (TypeFault other another) s = absurd (omega (arith, e, s.0))
-for_too_long bytes e ReadFault s = inr (inl refl)
-for_too_long bytes e WriteFault s = absurd (omega (arith, e, s.0))
-for_too_long bytes e NoMemory s = inr (inr refl)
-for_too_long bytes e TooLong s = inl refl
-for_too_long bytes e NotBuilt s = absurd (omega (arith, e, s.0))
-
-for_not_built : (bytes : List ℕ) → Says bytes NotBuilt → (status : Status) → Says bytes status → IsNoOther NotBuilt status
-for_not_built bytes e Done s = absurd (e.1.1 _ s.1.3.flat)
-for_not_built bytes e Usage s = absurd s
-for_not_built bytes e (Grammar other) s = absurd (e.1.0 s.1.0)
-for_not_built bytes e (TypeFault other another) s = absurd (e.1.1 s.1.0 s.1.1)
-for_not_built bytes e ReadFault s = inr (inl refl)
-for_not_built bytes e WriteFault s = absurd (e.1.1 _ s.1.3.flat)
-for_not_built bytes e NoMemory s = inr (inr refl)
-for_not_built bytes e TooLong s = absurd (omega (arith, e.0, s))
-for_not_built bytes e NotBuilt s = inl refl
-
--- where the bytes have a fault, no other status comes but a failing read and want of memory
-pub excluded : (bytes : List ℕ) (fault status : Status) → IsFileFault fault → Says bytes fault → Says bytes status → IsNoOther fault status
-excluded bytes Done status i e s = absurd i
-excluded bytes Usage status i e s = absurd i
-excluded bytes (Grammar line) status i e s = for_grammar bytes line e status s
-excluded bytes (TypeFault line kind) status i e s = for_misfit bytes line kind e status s
-excluded bytes ReadFault status i e s = absurd i
-excluded bytes WriteFault status i e s = absurd i
-excluded bytes NoMemory status i e s = absurd i
-excluded bytes TooLong status i e s = for_too_long bytes e status s
-excluded bytes NotBuilt status i e s = for_not_built bytes e status s
+-- bytes that are read have no fault
+pub no_fault : (bytes : List ℕ) (c : Content) (f : Fault) → Reads bytes c → IsFault bytes f → ⊥
+no_fault bytes c (Fault.NoFunctor line) a e = lacks_rows bytes a.rows e.0 a.flat
+no_fault bytes c (Fault.Misfit line kind) a e =
+    true≢false (sym (ap is_some (sym a.fitting ∙ ap fault_of (same_rows bytes a.rows e.0 a.flat e.1) ∙ e.2)))
+no_fault bytes c Fault.Unbuilt a e = e.1 a.rows a.flat

@@ -1,10 +1,11 @@
-mod Taking
-mod Prefixes
-mod Told
-mod BlockLaws
 mod Exclusion
-mod NameLaws
-mod Ends
 mod OneReading
+mod Stages
+mod Projections
+mod Told
+mod Making
+mod Prefixes
+mod BlockLaws
+mod NameLaws
 mod MinimalLaws
 mod OnOk

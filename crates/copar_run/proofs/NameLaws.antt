@@ -2,9 +2,8 @@
 use Rattle.std.proofs.Common.{◌≡◌, ℕ, zero, suc, ◌<◌, List, [], ◌∷◌, length, slice_index, false, true≢false, refl, ap, sym, subst, ◌∙◌, arith}
 use Rattle.std.specs.List.{AllByRecursion, IsDistinct}
 use Rattle.std.specs.Cmp.Lexicographic.{nat_list_eq_equiv}
-use Rattle.functor_terms.specs.Terms.{Nodes}
 use Rattle.functor_terms.specs.Words.{AreNames, is_same_word}
-use Rattle.typing.specs.declared.value.Value.{Value}
+use Rattle.typing.specs.Contents.{Content, words_of}
 use Rattle.quotient_writer.specs.Blocks.{name_of}
 use Rattle.copar_run.specs.Blocks.{AreBlocks, PrintsEquivalence}
 
@@ -31,11 +30,13 @@ one_name (name ∷ names) distinct (suc i) (suc j) hi hj e =
     ap (λ k. suc k) (one_name names distinct.1 i j (omega (arith, hi)) (omega (arith, hj)) e)
 
 -- two states share a printed block exactly if they are equivalent
-pub prints : (term : Nodes) (names : List (List ℕ)) (values : List Value) (firsts : List ℕ) → AreNames names → length values ≡ length names
-    → AreBlocks term values firsts → PrintsEquivalence term names values firsts
-prints term names values firsts are covered blocks i j hi hj =
-    let within : (k : ℕ) → k < length values → slice_index firsts k < length names =
+pub prints : (c : Content) (firsts : List ℕ) → AreNames (words_of c)
+    → length c.values ≡ length (words_of c) → AreBlocks c firsts → PrintsEquivalence c firsts
+prints c firsts are covered blocks i j hi hj =
+    let names = words_of c in
+    let within : (k : ℕ) → k < length c.values → slice_index firsts k < length names =
     λ k h. subst (λ n. slice_index firsts k < n) covered ((blocks.first k h).equivalent.1) in (
-      λ same. (blocks.alike i j hi hj).0 (one_name names are.distinct (slice_index firsts i) (slice_index firsts j) (within i hi) (within j hj) same),
+      λ same. (blocks.alike i j hi hj).0 (one_name names are.distinct (slice_index firsts i)
+          (slice_index firsts j) (within i hi) (within j hj) same),
       λ e. ap (name_of names) ((blocks.alike i j hi hj).1 e),
     )

@@ -10,6 +10,7 @@ use Rattle.typing.specs.Fits.{fits}
 use Rattle.typing.specs.Order.{is_normal}
 use Rattle.flat_files.specs.declared.row.Row.{Row}
 use Rattle.flat_files.specs.Rows.{IsSetOfRow, set_named, heads_of}
+use Rattle.typing.specs.Contents.{Content}
 use Rattle.copar_run.specs.Reading.{OneReading}
 use Rattle.copar_run.proofs.Exclusion.{same_rows}
 
@@ -41,14 +42,20 @@ same_values equivalent one names (row ∷ rows) (u ∷ us) (v ∷ vs) a b =
     ap (λ first. first ∷ us) (same_value equivalent one names row u v a.0 b.0)
     ∙ ap (λ others. v ∷ others) (same_values equivalent one names rows us vs a.1 b.1)
 
+-- the coalgebra of these four
+abbrev content : Nodes → List (List ℕ) → ℕ → List Value → Content
+content term names denominator values =
+    record { term = term; names = names; denominator = denominator; values = values }
+
 -- two readings of one file are the same
 pub one_reading : Equivalences → NormalOnes → OneReading
-one_reading equivalent one bytes term other names words values structures a b =
+one_reading equivalent one bytes c d a b =
     let rows : b.rows ≡ a.rows = same_rows bytes b.rows a.rows b.flat a.flat in
-    let named : words ≡ names = b.read.same_names ∙ ap heads_of rows ∙ sym a.read.same_names in (
-      b.read.same_term ∙ sym a.read.same_term,
-      named,
-      same_values equivalent one names a.rows structures values
-          (subst (λ w. AllZip (IsSetOfRow w) a.rows structures) named (subst (λ r. AllZip (IsSetOfRow words) r structures) rows b.read.sets))
-          a.read.sets,
-    )
+    let named : d.names ≡ c.names = b.read.same_names ∙ ap heads_of rows ∙ sym a.read.same_names in
+    let valued : d.values ≡ c.values = same_values equivalent one c.names a.rows d.values c.values
+    (subst (λ w. AllZip (IsSetOfRow w) a.rows d.values) named (subst (λ r. AllZip (IsSetOfRow d.names) r d.values) rows b.read.sets))
+    a.read.sets in
+    ap (λ t. content t d.names d.denominator d.values) (b.read.same_term ∙ sym a.read.same_term)
+    ∙ ap (λ n. content c.term n d.denominator d.values) named
+    ∙ ap (λ n. content c.term c.names n d.values) (b.read.whole ∙ sym a.read.whole)
+    ∙ ap (λ v. content c.term c.names c.denominator v) valued

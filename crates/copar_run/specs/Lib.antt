@@ -1,5 +1,3 @@
-pub mod Words
-pub mod Whole
 pub mod Reading
 pub mod Blocks
 pub mod Minimal

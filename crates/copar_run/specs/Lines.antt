@@ -1,12 +1,18 @@
 -- The lines that say why a run has no whole output.
 --
--- line_of status == the line of a status with its line feed; Done has none, and the text of Usage
---                   is left open
-use Rattle.std.specs.Prelude.{ℕ, List, [], ◌++◌, codes, decimal}
+-- line_of s               == the line of a status that stands in it alone, with its line feed
+-- line_at stage s         == the line of a status with which the stage stops a run
+-- IsLine words o s line   == the line tells how a run on these words may have ended with the status
+-- IsToldOn words o s old new counts
+--                         == a sink with these bytes and counts, before and after, was told so
+use Rattle.std.specs.Prelude.{◌≡◌, ◌≢◌, ◌⊎◌, ℕ, List, [], ◌++◌, Bool, true, false, take, codes, decimal, Option}
+use Rattle.std.specs.Io.KnownBytes.{append_known}
+use Rattle.command_line.specs.Requests.{Request, Asks}
 use Rattle.typing.specs.declared.kind.TypeKind.{TypeKind}
 use Rattle.typing.specs.declared.kind.TypeKind.TheVariants.{UnknownState, NotALabel, WrongShape, WrongCount, RepeatedKey, MissingKey, BadIndex, NotANumber, Negative, RepeatedState}
 use Rattle.copar_run.specs.declared.status.Status.{Status}
 use Rattle.copar_run.specs.declared.status.Status.TheVariants.{Done, Usage, Grammar, TypeFault, ReadFault, WriteFault, NoMemory, TooLong, NotBuilt}
+use Rattle.copar_run.specs.Outcome.{Counts, Outside, Stage, IsQuiet, is_end, stages_of, Reached, Stops}
 
 -- how the line of a type fault ends, by its kind
 abbrev pub ending_of : TypeKind → List ℕ
@@ -21,7 +27,8 @@ ending_of NotANumber = codes ": not a number\n"
 ending_of Negative = codes ": negative\n"
 ending_of RepeatedState = codes ": repeated state\n"
 
--- the line of a status with its line feed; Done has none, and the text of Usage is left open
+-- the line of a status that stands in it alone, with its line feed; Done has none, and the text of
+-- Usage is left open
 abbrev pub line_of : Status → List ℕ
 line_of Done = []
 line_of Usage = []
@@ -33,3 +40,37 @@ line_of WriteFault = codes "copar: write fault\n"
 line_of NoMemory = codes "copar: no memory\n"
 line_of TooLong = codes "copar: file longer than 67108864 bytes\n"
 line_of NotBuilt = codes "copar: not built\n"
+
+-- the line of a status with which the stage stops a run; the two stages add no word to it
+abbrev pub line_at : Stage → Status → List ℕ
+line_at stage s = line_of s
+
+-- the statuses that no stage decides
+abbrev pub IsFromOutside : Status → Type 0
+IsFromOutside s = (s ≡ NoMemory) ⊎ (s ≡ WriteFault)
+
+-- The line tells how a run on these words may have ended: for want of memory, by a failed write, or
+-- by a stage.
+pub data IsLine
+    (words : List (List ℕ)) (o : Outside) (s : Status) (line : List ℕ) : Type 0 where
+  FromOutside : IsFromOutside s → line ≡ line_of s → IsLine words o s line
+  FromStage :
+      (request : Request) → Asks words request → (stage : Stage)
+      → Reached o (stages_of request) stage → Stops o stage s → line ≡ line_at stage s
+      → IsLine words o s line
+
+-- The status was told on a sink, which had and has these bytes and counts. After Done it is as
+-- before. For each other status but Usage it got one line that tells it, whole where no write
+-- failed, and in any case a part from its front. For Usage it got some text where no write failed.
+pub record IsToldOn
+    (words : List (List ℕ)) (o : Outside) (s : Status) (old new : Option (List ℕ))
+    (w : Counts) : Type 0 where
+  pub silent : is_end s ≡ true → new ≡ old
+  pub told :
+      is_end s ≡ false → s ≢ Usage →
+      (line : List ℕ) × IsLine words o s line
+      × ((n : ℕ) × (new ≡ append_known old (take n line)))
+      × (IsQuiet w.before w.now → new ≡ append_known old line)
+  pub usage :
+      s ≡ Usage → IsQuiet w.before w.now →
+      (text : List ℕ) × (text ≢ []) × (new ≡ append_known old text)

@@ -1,53 +1,60 @@
 -- The quotient by behavioural equivalence, and its text. Nothing here knows how it is found.
 --
--- AreClasses term values labels  == classes numbered by their first states, with one number for
---                                   two states exactly if they are equivalent
--- IsMinimised term names values output
---                                == the output is the canonical text of the quotient by them
--- IsMinimisedText bytes output   == the same for the coalgebra that bytes denote
--- IsMinimal term names values output
---                                == and no two states of the quotient are equivalent, the text is
---                                   read back as it, and minimising it gives the same bytes
+-- AreClasses c labels      == classes numbered by their first states, with one number for two states
+--                             exactly if they are equivalent
+-- IsQuotientOf c b d       == d is the quotient of c by b
+-- canonical d              == the canonical text of d
+-- IsMinimised c output     == the output is the canonical text of the quotient by equivalence
+-- SameFractions d e        == e has the term, the names and the values of d, as fractions
+-- IsMinimal c output       == and no two states of the quotient are equivalent, the text spells it,
+--                             and minimising it gives the same bytes
 use Rattle.std.specs.Prelude.{◌≡◌, ℕ, ◌<◌, ◌↔◌, List, length, slice_index, IsTrue}
-use Rattle.functor_terms.specs.Terms.{Nodes}
-use Rattle.typing.specs.declared.value.Value.{Value}
+use Rattle.typing.specs.Contents.{Content, words_of}
 use Rattle.typing.specs.Stable.{AreEquivalent}
 use Rattle.quotient_writer.specs.Quotient.{is_numbered, IsQuotient}
 use Rattle.quotient_writer.specs.Texts.{text_of}
-use Rattle.copar_run.specs.Reading.{IsAccepted}
+use Rattle.copar_run.specs.Reading.{Reads, Spells}
 
 -- a number for each state; classes are numbered 0, 1, 2 by their first states, and two states have
 -- one number exactly if they are behaviourally equivalent
-pub record AreClasses (term : Nodes) (values : List Value) (labels : List ℕ) : Type 0 where
-  pub covers : length labels ≡ length values
+pub record AreClasses (c : Content) (labels : List ℕ) : Type 0 where
+  pub covers : length labels ≡ length c.values
   pub numbered : IsTrue (is_numbered labels)
   pub alike :
-      (i j : ℕ) → i < length values → j < length values →
-      (slice_index labels i ≡ slice_index labels j) ↔ AreEquivalent term values i j
+      (i j : ℕ) → i < length c.values → j < length c.values →
+      (slice_index labels i ≡ slice_index labels j) ↔ AreEquivalent c.term c.values i j
+
+-- d is the quotient of c by b: a homomorphism joins the states that have one number
+pub record IsQuotientOf (c : Content) (b : List ℕ) (d : Content) : Type 0 where
+  pub same_term : d.term ≡ c.term
+  pub same_denominator : d.denominator ≡ c.denominator
+  pub quotient : IsQuotient c.term (words_of c) c.values b (words_of d) d.values
+
+-- the canonical text of d
+abbrev pub canonical : Content → List ℕ
+canonical d = text_of (words_of d) d.values
 
 -- the output is the canonical text of the quotient by the classes of equivalence
-pub record IsMinimised
-    (term : Nodes) (names : List (List ℕ)) (values : List Value) (output : List ℕ) : Type 0 where
+pub record IsMinimised (c : Content) (output : List ℕ) : Type 0 where
   pub labels : List ℕ
-  pub new_names : List (List ℕ)
-  pub new_values : List Value
-  pub classes : AreClasses term values labels
-  pub quotient : IsQuotient term names values labels new_names new_values
-  pub text : output ≡ text_of new_names new_values
+  pub least : Content
+  pub classes : AreClasses c labels
+  pub quotient : IsQuotientOf c labels least
+  pub text : output ≡ canonical least
 
--- the output is that text for the coalgebra that the bytes denote
-pub record IsMinimisedText (bytes output : List ℕ) : Type 0 where
-  pub term : Nodes
-  pub names : List (List ℕ)
-  pub values : List Value
-  pub accepted : IsAccepted bytes term names values
-  pub minimised : IsMinimised term names values output
+-- e has the term, the names and the values of d, as fractions. In sets of states there is no
+-- fraction, so the values are the same.
+pub record SameFractions (d e : Content) : Type 0 where
+  pub same_term : e.term ≡ d.term
+  pub same_names : words_of e ≡ words_of d
+  pub same_values : e.values ≡ d.values
 
--- The output is that text. No two states of the quotient are equivalent. Read as a file, the text
--- denotes the quotient, and what is printed for this file is the same text.
-pub record IsMinimal
-    (term : Nodes) (names : List (List ℕ)) (values : List Value) (output : List ℕ) : Type 0 where
-  pub minimised : IsMinimised term names values output
-  pub minimal : (k l : ℕ) → AreEquivalent term minimised.new_values k l → k ≡ l
-  pub read_back : IsAccepted output term minimised.new_names minimised.new_values
-  pub again : (other : List ℕ) → IsMinimisedText output other → other ≡ output
+-- The output is that text, and no two states of the quotient are equivalent. The text spells the
+-- quotient. If it is accepted as a file, it denotes the quotient, and what is printed for this file
+-- is the same text.
+pub record IsMinimal (c : Content) (output : List ℕ) : Type 0 where
+  pub minimised : IsMinimised c output
+  pub minimal : (k l : ℕ) → AreEquivalent minimised.least.term minimised.least.values k l → k ≡ l
+  pub spelled : Spells output minimised.least
+  pub read_back : (e : Content) → Reads output e → SameFractions minimised.least e
+  pub again : (e : Content) (other : List ℕ) → Reads output e → IsMinimised e other → other ≡ output

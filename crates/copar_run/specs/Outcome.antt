@@ -1,27 +1,32 @@
--- What a status says of the file, of the words and of the output.
+-- How a run ends.
 --
--- code_of status               == the number that the program ends with
--- Files                        == the files of a folder, by name
--- Says bytes status            == what the status says of the bytes of the file
--- Judged file status           == what it says of the file, which is None where it is absent
--- IsFileFault status           == a fault that the bytes of the file alone decide
--- IsAsked words files command bytes
---                              == the words ask for the command and for the file with these bytes
--- Answers words files output   == the output is that of the command and file that the words ask for
--- Written words files s bytes  == the bytes are what was written under the status s
--- HasNoOutput status           == nothing is written under the status
--- IsQuiet before now           == a count did not rise, and is not at its end
-use Rattle.std.specs.Prelude.{◌≡◌, ℕ, ◌<◌, ◌≤◌, ◌^◌, List, [], length, take, ⊤, Option, Some, None, IfSome}
+-- code_of status            == the number that the program ends with
+-- Outside                   == what a run met outside: the files, and their counts of faults
+-- Stage, stages_of request  == what may stop a request before its work, in the order of refusals
+-- Stops o stage s           == the stage has a cause for this status
+-- Passes o stage            == the stage has none
+-- Reached o stages stage    == each stage before it passes
+-- names_read request        == the names that it reads where nothing stops it, in that order
+-- IsRead o request name     == it reads this name: nothing earlier stopped it
+-- Answers o request rise ending whole
+--                           == the whole output of the request, and the status that comes with it
+-- Ends request o counts rise s output
+--                           == the request may end so: why, what was written, how many steps it took
+-- Ran words o counts rise s output
+--                           == the same of the words
+-- IsMade, IsHalted          == how a request stands before its output is written
+use Rattle.std.specs.Prelude.{◌≡◌, ℕ, ◌<◌, ◌≤◌, ◌^◌, List, [], ◌∷◌, length, take, ⊤, Bool, true, false, Option, Some, None, IfSome, ◌⊎◌}
 use Rattle.std.specs.Ordering.{nat_cmp}
 use Rattle.std.specs.Cmp.Lexicographic.{slice_cmp}
 use Rattle.std.specs.FinMap as map
-use Rattle.outside.specs.Faults.{last_count}
+use Rattle.outside.specs.Faults.{last_count, Rose}
+use Rattle.command_line.specs.Requests.{Request, Asks, AsksNothing}
+use Rattle.typing.specs.Contents.{Content}
 use Rattle.copar_run.specs.declared.status.Status.{Status}
+use Rattle.copar_run.specs.declared.status.Status.TheVariants as status
 use Rattle.copar_run.specs.declared.status.Status.TheVariants.{Done, Usage, Grammar, TypeFault, ReadFault, WriteFault, NoMemory, TooLong, NotBuilt}
-use Rattle.copar_run.specs.declared.words.Command.{Command}
-use Rattle.copar_run.specs.Words.{command_asked, file_asked}
-use Rattle.copar_run.specs.Reading.{LacksFunctor, IsNotBuilt, IsMisfit, AreAccepted}
-use Rattle.copar_run.specs.Outputs.{IsOutput}
+use Rattle.copar_run.specs.Reading.{Reads, Fault, IsFault, status_of}
+use Rattle.copar_run.specs.Outputs.{Subject, Prints, MayEnd}
 
 -- the number that the program ends with
 abbrev pub code_of : Status → ℕ
@@ -35,6 +40,19 @@ code_of NoMemory = 11
 code_of TooLong = 12
 code_of NotBuilt = 13
 
+-- a status with which a stage may stop a request
+abbrev pub is_stop : Status → Bool
+is_stop Done = false
+is_stop Usage = false
+is_stop WriteFault = false
+is_stop NoMemory = false
+is_stop _ = true
+
+-- the status comes once the output is written
+abbrev pub is_end : Status → Bool
+is_end Done = true
+is_end _ = false
+
 -- the files of a folder, by name
 abbrev pub Files : Type 0
 Files = map.FinMap (slice_cmp nat_cmp) (List ℕ)
@@ -43,74 +61,183 @@ Files = map.FinMap (slice_cmp nat_cmp) (List ℕ)
 abbrev pub most_bytes : ℕ
 most_bytes = 2 ^ 26
 
--- what a status says of the bytes of the file
-abbrev pub Says : List ℕ → Status → Type 0
-Says bytes Done = (length bytes ≤ most_bytes) × AreAccepted bytes
-Says bytes Usage = ⊥
-Says bytes (Grammar line) = (length bytes ≤ most_bytes) × LacksFunctor bytes line
-Says bytes (TypeFault line kind) = (length bytes ≤ most_bytes) × IsMisfit bytes line kind
-Says bytes ReadFault = ⊤
-Says bytes WriteFault = (length bytes ≤ most_bytes) × AreAccepted bytes
-Says bytes NoMemory = ⊤
-Says bytes TooLong = most_bytes < length bytes
-Says bytes NotBuilt = (length bytes ≤ most_bytes) × IsNotBuilt bytes
+-- what a run met outside: the files, where the folder tells them, and for each name its count of
+-- faults before and after
+pub record Outside : Type 0 where
+  pub files : Option Files
+  pub before : List ℕ → ℕ
+  pub now : List ℕ → ℕ
 
--- the status comes where the file is absent
-abbrev pub IsForAbsent : Status → Type 0
-IsForAbsent ReadFault = ⊤
-IsForAbsent NoMemory = ⊤
-IsForAbsent _ = ⊥
+-- what a run met outside, by its folder before and after
+abbrev pub met : Option Files → (List ℕ → ℕ) → (List ℕ → ℕ) → Outside
+met files before now = record { files = files; before = before; now = now }
 
--- what a status says of the file, which is None where it is absent
-abbrev pub Judged : Option (List ℕ) → Status → Type 0
-Judged None status = IsForAbsent status
-Judged (Some bytes) status = Says bytes status
+-- the counts of faults of a sink, before and after
+pub record Counts : Type 0 where
+  pub before : ℕ
+  pub now : ℕ
 
--- a fault that the bytes of the file alone decide
-abbrev pub IsFileFault : Status → Type 0
-IsFileFault (Grammar line) = ⊤
-IsFileFault (TypeFault line kind) = ⊤
-IsFileFault TooLong = ⊤
-IsFileFault NotBuilt = ⊤
-IsFileFault _ = ⊥
-
--- the words ask for the command and for the file with these bytes, which are within the bound
-pub record IsAsked
-    (words : List (List ℕ)) (files : Files) (command : Command) (bytes : List ℕ) : Type 0 where
-  pub ordered : command_asked words ≡ Some command
-  pub name : List ℕ
-  pub asked : file_asked words ≡ Some name
-  pub there : map.get files name ≡ Some bytes
-  pub within : length bytes ≤ most_bytes
-
--- the output is that of the command and the file that the words ask for
-abbrev pub Answers : List (List ℕ) → Files → List ℕ → Type 0
-Answers words files output =
-    (command : Command) × (bytes : List ℕ) ×
-    IsAsked words files command bytes × IsOutput command bytes output
-
--- what was written under a status: the whole output, a part of it from the front, or nothing
-abbrev pub Written : List (List ℕ) → Option Files → Status → List ℕ → Type 0
-Written words files Done bytes = IfSome files (λ known. Answers words known bytes)
-Written words files WriteFault bytes =
-    (output : List ℕ) × (n : ℕ) × (bytes ≡ take n output) ×
-    IfSome files (λ known. Answers words known output)
-Written words files _ bytes = bytes ≡ []
-
--- nothing is written under the status
-abbrev pub HasNoOutput : Status → Type 0
-HasNoOutput Done = ⊥
-HasNoOutput WriteFault = ⊥
-HasNoOutput _ = ⊤
-
--- a status that the words do not decide, and under which nothing is written
-abbrev pub IsRefusal : Status → Type 0
-IsRefusal Done = ⊥
-IsRefusal WriteFault = ⊥
-IsRefusal Usage = ⊥
-IsRefusal _ = ⊤
+-- the counts of a sink, before and after
+abbrev pub counts : ℕ → ℕ → Counts
+counts before now = record { before = before; now = now }
 
 -- the count did not rise, and is below its last value
 pub record IsQuiet (before now : ℕ) : Type 0 where
   pub same : now ≡ before
   pub below : now < last_count
+
+-- no read failed: no count of the folder changed
+abbrev pub NoReadFailed : Outside → Type 0
+NoReadFailed o = (name : List ℕ) → o.now name ≡ o.before name
+
+-- no write failed: the count did not change
+abbrev pub NoWriteFailed : Counts → Type 0
+NoWriteFailed w = w.now ≡ w.before
+
+-- what may stop a request before its work
+pub data Stage : Type 0 where
+  -- the file is read; it is within the bound
+  GetFile : (name : List ℕ) → Stage
+  -- it denotes a coalgebra
+  ReadFile : (name : List ℕ) → Stage
+
+-- reading FILE, and what may stop the request after it
+abbrev pub of_file : List ℕ → List Stage → List Stage
+of_file file others = Stage.GetFile file ∷ Stage.ReadFile file ∷ others
+
+-- what may stop a request, in the order of refusals
+abbrev pub stages_of : Request → List Stage
+stages_of (Request.Blocks file) = of_file file []
+stages_of (Request.Minimise file) = of_file file []
+
+-- the names of the files that stages read, in order
+abbrev pub names_in : List Stage → List (List ℕ)
+names_in [] = []
+names_in (Stage.GetFile name ∷ stages) = name ∷ names_in stages
+names_in (Stage.ReadFile name ∷ stages) = names_in stages
+
+-- the names of the files that a request reads where nothing stops it, in the order of refusals
+abbrev pub names_read : Request → List (List ℕ)
+names_read request = names_in (stages_of request)
+
+-- the file of this name has these bytes
+abbrev pub Holds : Files → List ℕ → List ℕ → Type 0
+Holds files name bytes = map.get files name ≡ Some bytes
+
+-- the file of this name denotes the coalgebra
+abbrev pub Denotes : Files → List ℕ → Content → Type 0
+Denotes files name c = (bytes : List ℕ) × Holds files name bytes × Reads bytes c
+
+-- the cause of a status in the files: the file is too long; its bytes have this first fault
+abbrev pub Cause : Files → Stage → Status → Type 0
+Cause files (Stage.GetFile name) s =
+    (s ≡ TooLong) × ((bytes : List ℕ) × Holds files name bytes × (most_bytes < length bytes))
+Cause files (Stage.ReadFile name) s =
+    (bytes : List ℕ) × Holds files name bytes
+    × ((fault : Fault) × (s ≡ status_of fault) × IsFault bytes fault)
+
+-- the stage has no cause in the files
+abbrev pub Clear : Files → Stage → Type 0
+Clear files (Stage.GetFile name) =
+    (bytes : List ℕ) × Holds files name bytes × (length bytes ≤ most_bytes)
+Clear files (Stage.ReadFile name) = (c : Content) × Denotes files name c
+
+-- a read of this stage failed, and the count of its name rose
+abbrev pub FailedRead : Outside → Stage → Type 0
+FailedRead o (Stage.GetFile name) = Rose (o.before name) (o.now name)
+FailedRead o (Stage.ReadFile name) = ⊥
+
+-- the stage may stop with the status; where the folder is silent, this is all that is known
+abbrev pub MayStop : Stage → Status → Type 0
+MayStop (Stage.GetFile name) s = s ≡ TooLong
+MayStop (Stage.ReadFile name) s = (fault : Fault) × (s ≡ status_of fault)
+
+-- the stage has a cause for the status: a failed read, or one in the files
+abbrev pub Stops : Outside → Stage → Status → Type 0
+Stops o stage s =
+    ((s ≡ ReadFault) × FailedRead o stage)
+    ⊎ (MayStop stage s × IfSome o.files (λ files. Cause files stage s))
+
+-- the stage has none
+abbrev pub Passes : Outside → Stage → Type 0
+Passes o stage = IfSome o.files (λ files. Clear files stage)
+
+-- the stage is among these, and each before it passes
+abbrev pub Reached : Outside → List Stage → Stage → Type 0
+Reached o [] stage = ⊥
+Reached o (first ∷ stages) stage = (stage ≡ first) ⊎ (Passes o first × Reached o stages stage)
+
+-- each stage passes
+abbrev pub PassesAll : Outside → List Stage → Type 0
+PassesAll o [] = ⊤
+PassesAll o (first ∷ stages) = Passes o first × PassesAll o stages
+
+-- the request reads the file of this name
+abbrev pub IsRead : Outside → Request → List ℕ → Type 0
+IsRead o request name = Reached o (stages_of request) (Stage.GetFile name)
+
+-- it is about the coalgebra of this file
+abbrev pub IsOfOne : Files → List ℕ → Subject → Type 0
+IsOfOne files file subject = (c : Content) × (subject ≡ Subject.One c) × Denotes files file c
+
+-- what the request is about, in these files
+abbrev pub IsSubject : Files → Request → Subject → Type 0
+IsSubject files (Request.Blocks file) subject = IsOfOne files file subject
+IsSubject files (Request.Minimise file) subject = IsOfOne files file subject
+
+-- the whole output of the request, with the status that comes once it is written
+abbrev pub Answers : Outside → Request → ℕ → Status → List ℕ → Type 0
+Answers o request rise ending whole =
+    MayEnd request ending × IfSome o.files (λ files.
+    (subject : Subject) × IsSubject files request subject × Prints request subject rise whole)
+
+-- what of the whole output was written: all, or after a failed write a part from its front
+abbrev pub IsWritten : Counts → Status → List ℕ → Status → List ℕ → Type 0
+IsWritten w ending whole s output =
+    ((s ≡ ending) × (output ≡ whole) × NoWriteFailed w)
+    ⊎ ((s ≡ WriteFault) × Rose w.before w.now × ((n : ℕ) × (output ≡ take n whole)))
+
+-- How a request may end: without memory, before the first write; at the first stage that stops it;
+-- or after its work, which took so many steps.
+pub data Ends
+    (request : Request) (o : Outside) (w : Counts) (rise : ℕ) (s : Status)
+    (output : List ℕ) : Type 0 where
+  WithoutMemory :
+      s ≡ NoMemory → output ≡ [] → NoReadFailed o → NoWriteFailed w
+      → Ends request o w rise s output
+  Stopped :
+      (stage : Stage) → Reached o (stages_of request) stage → Stops o stage s → output ≡ []
+      → (s ≡ ReadFault) ⊎ NoReadFailed o → NoWriteFailed w → Ends request o w rise s output
+  Worked :
+      (ending : Status) → (whole : List ℕ) → PassesAll o (stages_of request)
+      → Answers o request rise ending whole → IsWritten w ending whole s output
+      → NoReadFailed o → Ends request o w rise s output
+
+-- How a run on these words may end: refused, where they ask for nothing; without memory to read
+-- them; or as the request that they make.
+pub data Ran
+    (words : List (List ℕ)) (o : Outside) (w : Counts) (rise : ℕ) (s : Status)
+    (output : List ℕ) : Type 0 where
+  Refused :
+      AsksNothing words → s ≡ Usage → output ≡ [] → NoReadFailed o → NoWriteFailed w
+      → Ran words o w rise s output
+  Unread :
+      s ≡ NoMemory → output ≡ [] → NoReadFailed o → NoWriteFailed w
+      → Ran words o w rise s output
+  Asked :
+      (request : Request) → Asks words request → Ends request o w rise s output
+      → Ran words o w rise s output
+
+-- The first half of a run: the output was made, and nothing stopped the request before.
+pub record IsMade
+    (request : Request) (o : Outside) (rise : ℕ) (whole : List ℕ) : Type 0 where
+  pub passes : PassesAll o (stages_of request)
+  pub answers : Answers o request rise Done whole
+  pub read : NoReadFailed o
+
+-- Or it was not: memory was wanting, or a stage stopped the request.
+pub data IsHalted (request : Request) (o : Outside) (s : Status) : Type 0 where
+  ForMemory : s ≡ NoMemory → NoReadFailed o → IsHalted request o s
+  AtStage :
+      (stage : Stage) → Reached o (stages_of request) stage → Stops o stage s
+      → (s ≡ ReadFault) ⊎ NoReadFailed o → IsHalted request o s

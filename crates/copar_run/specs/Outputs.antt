@@ -1,25 +1,34 @@
--- What each command prints.
+-- What each request prints.
 --
--- Prints command term names values output == the output of the command for this coalgebra
--- IsOutput command bytes output           == the output for the coalgebra that the bytes denote
-use Rattle.std.specs.Prelude.{ℕ, List}
-use Rattle.functor_terms.specs.Terms.{Nodes}
-use Rattle.typing.specs.declared.value.Value.{Value}
-use Rattle.copar_run.specs.declared.words.Command.{Command}
-use Rattle.copar_run.specs.declared.words.Command.TheVariants.{Blocks, Minimise}
-use Rattle.copar_run.specs.Reading.{IsAccepted}
+-- Subject          == what a request is about, once nothing stopped it
+-- IsCounted c rise == the work on this coalgebra takes so many steps
+-- MayEnd request ending
+--                  == the status may come once the output is written
+-- Prints request subject rise output
+--                  == the output of the request for this subject, after so many steps
+use Rattle.std.specs.Prelude.{◌≡◌, ℕ, List}
+use Rattle.command_line.specs.Requests.{Request}
+use Rattle.typing.specs.Contents.{Content}
+use Rattle.copar_run.specs.declared.status.Status.{Status}
+use Rattle.copar_run.specs.declared.status.Status.TheVariants.{Done}
 use Rattle.copar_run.specs.Blocks.{IsBlockList}
 use Rattle.copar_run.specs.Minimal.{IsMinimal}
 
--- the output of the command for the coalgebra with these names and values
-abbrev pub Prints : Command → Nodes → List (List ℕ) → List Value → List ℕ → Type 0
-Prints Blocks term names values output = IsBlockList term names values output
-Prints Minimise term names values output = IsMinimal term names values output
+-- what a request is about: a coalgebra
+pub data Subject : Type 0 where
+  One : Content → Subject
 
--- the output of the command for the coalgebra that the bytes denote
-pub record IsOutput (command : Command) (bytes output : List ℕ) : Type 0 where
-  pub term : Nodes
-  pub names : List (List ℕ)
-  pub values : List Value
-  pub accepted : IsAccepted bytes term names values
-  pub prints : Prints command term names values output
+-- the work on a coalgebra takes so many steps; rounds over all states count none
+abbrev pub IsCounted : Content → ℕ → Type 0
+IsCounted c rise = rise ≡ 0
+
+-- the status may come once the output is written
+abbrev pub MayEnd : Request → Status → Type 0
+MayEnd request s = s ≡ Done
+
+-- the output of the request for this subject, after so many steps
+abbrev pub Prints : Request → Subject → ℕ → List ℕ → Type 0
+Prints (Request.Blocks file) (Subject.One c) rise output =
+    IsCounted c rise × IsBlockList c output
+Prints (Request.Minimise file) (Subject.One c) rise output =
+    IsCounted c rise × IsMinimal c output

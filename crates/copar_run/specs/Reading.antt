@@ -1,53 +1,63 @@
--- What the bytes of a file are read as. Exactly one of four things holds of them: they lack a
--- functor line; they are of a form that is not built; they do not fit; or they are accepted.
+-- What the bytes of a file are read as: a coalgebra, or their first fault.
 --
--- LacksFunctor bytes line      == no line stands there but skipped ones; `line` is the number of
---                                 line feeds and one
--- IsNotBuilt bytes             == a line stands there, and the lines are not `P X` and flat lines
--- IsMisfit bytes line kind     == the first fault of the flat lines is of this line and kind
--- IsAccepted bytes term ..     == the flat lines have no fault, and denote this coalgebra
--- OneReading                   == a file denotes one coalgebra at most
--- AreAccepted bytes            == they denote some coalgebra
+-- Reads bytes c         == the bytes denote the coalgebra
+-- Fault                 == a fault of reading
+-- IsFault bytes fault   == it is the first fault of the bytes
+-- status_of fault       == the status that tells it
+-- Tells bytes status    == the status tells the first fault of the bytes, or want of memory
+-- OneReading            == bytes denote one coalgebra at most
+-- Spells text c         == the text spells the coalgebra
 use Rattle.std.specs.Prelude.{◌≡◌, ◌≢◌, ℕ, ◌+◌, List, [], Some, None}
 use Rattle.file_cut.specs.Lines.{lines_of}
-use Rattle.functor_terms.specs.Terms.{Nodes}
+use Rattle.typing.specs.Contents.{Content}
 use Rattle.typing.specs.declared.kind.TypeKind.{TypeKind}
-use Rattle.typing.specs.declared.value.Value.{Value}
 use Rattle.flat_files.specs.declared.row.Row.{Row}
 use Rattle.flat_files.specs.Rows.{AreRows, feed_count, fault_of, IsReadAs}
+use Rattle.copar_run.specs.declared.status.Status.{Status}
+use Rattle.copar_run.specs.declared.status.Status.TheVariants as status
 
--- there is no line but skipped ones, and this is the number of line feeds and one
-abbrev pub LacksFunctor : List ℕ → ℕ → Type 0
-LacksFunctor bytes line = (lines_of bytes ≡ []) × (line ≡ feed_count bytes + 1)
-
--- there is a functor line, and it is not `P X`, or a later line is not flat
-abbrev pub IsNotBuilt : List ℕ → Type 0
-IsNotBuilt bytes = (lines_of bytes ≢ []) × ((rows : List Row) → ¬ AreRows bytes rows)
-
--- the lines are `P X` and flat lines, of which the first that has a fault is this one
-abbrev pub IsMisfit : List ℕ → ℕ → TypeKind → Type 0
-IsMisfit bytes line kind =
-    (rows : List Row) × AreRows bytes rows × (fault_of rows ≡ Some (line, kind))
-
--- the lines are `P X` and flat lines without a fault, which denote the coalgebra with these states
-pub record IsAccepted
-    (bytes : List ℕ) (term : Nodes) (names : List (List ℕ)) (values : List Value) : Type 0 where
+-- the lines are `P X` and flat lines without a fault, which denote the coalgebra
+pub record Reads (bytes : List ℕ) (c : Content) : Type 0 where
   pub rows : List Row
-  pub denominator : ℕ
   pub flat : AreRows bytes rows
   pub fitting : fault_of rows ≡ None
-  pub read : IsReadAs rows term names denominator values
+  pub read : IsReadAs rows c.term c.names c.denominator c.values
 
--- two coalgebras that one file denotes are the same
+-- a fault of reading: there is no functor line; a line does not fit; the file is of a form that is
+-- not built
+pub data Fault : Type 0 where
+  NoFunctor : (line : ℕ) → Fault
+  Misfit : (line : ℕ) → (kind : TypeKind) → Fault
+  Unbuilt : Fault
+
+-- it is the first fault of the bytes: no line stands there but skipped ones; the first row that has
+-- a fault is of this line and kind; or a line stands there, and the lines are not `P X` and flat ones
+abbrev pub IsFault : List ℕ → Fault → Type 0
+IsFault bytes (Fault.NoFunctor line) =
+    (lines_of bytes ≡ []) × (line ≡ feed_count bytes + 1)
+IsFault bytes (Fault.Misfit line kind) =
+    (rows : List Row) × AreRows bytes rows × (fault_of rows ≡ Some (line, kind))
+IsFault bytes Fault.Unbuilt =
+    (lines_of bytes ≢ []) × ((rows : List Row) → ¬ AreRows bytes rows)
+
+-- the status that tells a fault of reading
+abbrev pub status_of : Fault → Status
+status_of (Fault.NoFunctor line) = status.Grammar line
+status_of (Fault.Misfit line kind) = status.TypeFault line kind
+status_of Fault.Unbuilt = status.NotBuilt
+
+-- the status tells the first fault of the bytes, or that memory was wanting
+abbrev pub Tells : List ℕ → Status → Type 0
+Tells bytes (status.Grammar line) = IsFault bytes (Fault.NoFunctor line)
+Tells bytes (status.TypeFault line kind) = IsFault bytes (Fault.Misfit line kind)
+Tells bytes status.NotBuilt = IsFault bytes Fault.Unbuilt
+Tells bytes status.NoMemory = Unit {0}
+Tells bytes _ = ⊥
+
+-- bytes denote one coalgebra at most, its denominator with it
 abbrev pub OneReading : Type 0
-OneReading =
-    (bytes : List ℕ) (term other : Nodes) (names words : List (List ℕ)) →
-    (values structures : List Value) →
-    IsAccepted bytes term names values → IsAccepted bytes other words structures →
-    (other ≡ term) × (words ≡ names) × (structures ≡ values)
+OneReading = (bytes : List ℕ) (c d : Content) → Reads bytes c → Reads bytes d → d ≡ c
 
--- the bytes denote some coalgebra
-abbrev pub AreAccepted : List ℕ → Type 0
-AreAccepted bytes =
-    (term : Nodes) × (names : List (List ℕ)) × (values : List Value) ×
-    IsAccepted bytes term names values
+-- the text spells the coalgebra by the grammar without its bounds
+abbrev pub Spells : List ℕ → Content → Type 0
+Spells text c = Reads text c

@@ -1,24 +1,79 @@
 //! Laws of the definitions, each the contract of a function that does nothing.
-ghost use Rattle.std.specs.Prelude.{◌≡◌, ◌⊎◌, ℕ, List};
+ghost use Rattle.std.specs.Prelude.{◌≡◌, ◌≢◌, ◌⊎◌, ℕ, List, [], Some, false, true, take};
+ghost use Rattle.outside.specs.Faults.{Rose};
+ghost use Rattle.command_line.specs.Requests.{Request, Asks, AsksNothing};
 ghost use Rattle.copar_run.specs.declared.status.Status.{Status as Ending};
-ghost use Rattle.copar_run.specs.Outcome.{Says, IsFileFault};
 ghost use Rattle.copar_run.specs.Reading.{OneReading};
+ghost use Rattle.copar_run.specs.Outputs.{Subject, Prints, MayEnd};
+ghost use Rattle.copar_run.specs.Outcome.{Counts, Files, IsQuiet, NoReadFailed, NoWriteFailed, Outside, Stage, stages_of, Cause, Reached, PassesAll, Stops, IsRead, IsSubject, Answers, Ran, is_stop, is_end};
 
 use crate::Status;
 use typing::{equality_is_an_equivalence, normal_values_are_unique};
 
-/// The causes in a file exclude each other: where the bytes have a fault, no other status than that
-/// fault comes, save a failing read and want of memory.
-pub fn causes_exclude_each_other()
-    ensures at_most_one_cause { (bytes : List ℕ) (fault status : Ending) →
-        IsFileFault fault → Says bytes fault → Says bytes status →
-        (status ≡ fault) ⊎ ((status ≡ Status.ReadFault) ⊎ (status ≡ Status.NoMemory)) }
-{}
-
-/// A file denotes one coalgebra at most.
-pub fn accepted_files_have_one_reading()
+/// A file denotes one coalgebra at most, its denominator with it.
+pub fn files_have_one_reading()
     ensures one_reading { OneReading }
 {
     equality_is_an_equivalence();
     normal_values_are_unique();
+}
+
+/// Where the folder tells its files, the stages of a request stop it with one status, save for
+/// failed reads.
+pub fn one_stage_stops()
+    ensures one_status { (files : Files) (o : Outside) (stages : List Stage) (a b : Stage)
+        (s t : Ending) → o.files ≡ Some files → Reached o stages a → Stops o a s →
+        Reached o stages b → Stops o b t →
+        (t ≡ s) ⊎ ((s ≡ Status.ReadFault) ⊎ (t ≡ Status.ReadFault)) }
+{
+    files_have_one_reading();
+}
+
+/// What follows from how a run ends. The top call has each of these as a clause of its own.
+pub fn runs_end_so()
+    ensures usage { (words : List (List ℕ)) (o : Outside) (w : Counts) (rise : ℕ) (s : Ending)
+        (output : List ℕ) → AsksNothing words → Ran words o w rise s output →
+        (s ≡ Status.Usage) ⊎ (s ≡ Status.NoMemory) }
+    ensures usage_only { (words : List (List ℕ)) (o : Outside) (w : Counts) (rise : ℕ)
+        (s : Ending) (output : List ℕ) → Ran words o w rise s output → s ≡ Status.Usage →
+        AsksNothing words }
+    ensures judged { (words : List (List ℕ)) (o : Outside) (w : Counts) (rise : ℕ) (s : Ending)
+        (output : List ℕ) (files : Files) (request : Request) → Ran words o w rise s output →
+        o.files ≡ Some files → Asks words request → is_stop s ≡ true → (s ≡ Status.ReadFault)
+        ⊎ ((stage : Stage) × Reached o (stages_of request) stage × Cause files stage s) }
+    ensures fault_is_told { (words : List (List ℕ)) (o : Outside) (w : Counts) (rise : ℕ)
+        (s : Ending) (output : List ℕ) (files : Files) (request : Request) (stage : Stage)
+        (fault : Ending) → Ran words o w rise s output → o.files ≡ Some files →
+        Asks words request → Reached o (stages_of request) stage → Cause files stage fault →
+        (s ≡ fault) ⊎ ((s ≡ Status.ReadFault) ⊎ (s ≡ Status.NoMemory)) }
+    ensures nothing { (words : List (List ℕ)) (o : Outside) (w : Counts) (rise : ℕ) (s : Ending)
+        (output : List ℕ) → Ran words o w rise s output → is_end s ≡ false →
+        s ≢ Status.WriteFault → output ≡ [] }
+    ensures read_fault { (words : List (List ℕ)) (o : Outside) (w : Counts) (rise : ℕ)
+        (s : Ending) (output : List ℕ) (request : Request) → Ran words o w rise s output →
+        Asks words request → s ≡ Status.ReadFault →
+        (name : List ℕ) × IsRead o request name × Rose (o.before name) (o.now name) }
+    ensures write_fault { (words : List (List ℕ)) (o : Outside) (w : Counts) (rise : ℕ)
+        (s : Ending) (output : List ℕ) (request : Request) → Ran words o w rise s output →
+        Asks words request → s ≡ Status.WriteFault → Rose w.before w.now
+        × ((ending : Ending) × (whole : List ℕ) × (n : ℕ)
+        × Answers o request rise ending whole × (output ≡ take n whole)) }
+    ensures whole { (words : List (List ℕ)) (o : Outside) (w : Counts) (rise : ℕ) (s : Ending)
+        (output : List ℕ) (request : Request) → Ran words o w rise s output →
+        Asks words request → s ≡ Status.Done → Answers o request rise s output }
+    ensures reads_are_told { (words : List (List ℕ)) (o : Outside) (w : Counts) (rise : ℕ)
+        (s : Ending) (output : List ℕ) → Ran words o w rise s output →
+        s ≢ Status.ReadFault → NoReadFailed o }
+    ensures writes_are_told { (words : List (List ℕ)) (o : Outside) (w : Counts) (rise : ℕ)
+        (s : Ending) (output : List ℕ) → Ran words o w rise s output →
+        s ≢ Status.WriteFault → NoWriteFailed w }
+    ensures headline { (words : List (List ℕ)) (o : Outside) (w : Counts) (rise : ℕ) (s : Ending)
+        (output : List ℕ) (files : Files) (request : Request) (subject : Subject) →
+        Ran words o w rise s output → o.files ≡ Some files → Asks words request →
+        PassesAll o (stages_of request) → IsSubject files request subject →
+        ((name : List ℕ) → IsRead o request name → IsQuiet (o.before name) (o.now name)) →
+        IsQuiet w.before w.now →
+        (s ≡ Status.NoMemory) ⊎ (MayEnd request s × Prints request subject rise output) }
+{
+    files_have_one_reading();
 }

@@ -14,16 +14,9 @@ mod laws;
 mod lines;
 mod outputs;
 mod status;
-#[cfg(test)]
-mod tables;
-#[cfg(test)]
-mod tests;
 mod top;
-mod usage;
-mod whole;
-mod words;
 
-pub use laws::{accepted_files_have_one_reading, causes_exclude_each_other};
+pub use command_line::WordList;
+pub use laws::{files_have_one_reading, one_stage_stops, runs_end_so};
 pub use status::Status;
-pub use top::run;
-pub use words::WordList;
+pub use top::{answer, run};

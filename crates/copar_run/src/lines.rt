@@ -1,14 +1,60 @@
 //! The lines that say why a run has no whole output.
-ghost use Rattle.std.specs.Prelude.{◌≡◌, ◌≤◌, ℕ, [], ◌++◌, take, codes, decimal};
+ghost use Rattle.std.specs.Prelude.{◌≡◌, ◌≢◌, ◌≤◌, ℕ, List, [], ◌++◌, take, codes, decimal};
 ghost use Rattle.std.specs.Io.KnownBytes.{append_known};
-ghost use Rattle.copar_run.specs.Outcome.{IsQuiet};
-ghost use Rattle.copar_run.specs.Lines.{line_of, ending_of};
+ghost use Rattle.copar_run.specs.Outcome.{Counts, IsQuiet, Outside, Ran, counts};
+ghost use Rattle.copar_run.specs.Lines.{IsToldOn, line_of, ending_of};
 
 use crate::Status;
-use crate::whole::put_all;
+use command_line::{WordList, complaint};
 use itoa::Buffer;
-use outside::Sink;
+use outside::{Sink, put_all};
+use std::alloc::Global;
 use typing::TypeKind;
+
+/// Says on `err` how a run on these words ended, if it did not end well.
+pub(crate) fn tell<E: Sink>(alloc: Global, err: &mut E, words: &WordList, status: Status)
+    ensures told { (o : Outside) (w : Counts) (rise : ℕ) (output : List ℕ) →
+        Ran words.now o w rise status output →
+        IsToldOn words.now o status (E.taken err.old) (E.taken err.new)
+        (counts (E.faults err.old) (E.faults err.new)) }
+    ensures no_line { status ≡ Status.Done → err.new ≡ err.old }
+    ensures no_count_falls { E.faults err.old ≤ E.faults err.new }
+{
+    match status {
+        Status::Usage => put_usage(alloc, err, words),
+        _ => put_line(err, status),
+    }
+}
+
+/// Writes what is wrong with words that make no request, the forms that are taken, and an example.
+fn put_usage<E: Sink>(alloc: Global, err: &mut E, words: &WordList)
+    ensures some_text { IsQuiet (E.faults err.old) (E.faults err.new) →
+        (text : List ℕ) × (text ≢ [])
+        × (E.taken err.new ≡ append_known (E.taken err.old) text) }
+    ensures no_count_falls { E.faults err.old ≤ E.faults err.new }
+{
+    match complaint(alloc, words) {
+        Ok(text) => put_some(err, text.as_bytes()),
+        Err(_) => put_some(err, b""),
+    }
+}
+
+/// Writes a text, or a short one in place of no byte.
+fn put_some<E: Sink>(err: &mut E, text: &[u8])
+    ensures some_text { IsQuiet (E.faults err.old) (E.faults err.new) →
+        (some : List ℕ) × (some ≢ [])
+        × (E.taken err.new ≡ append_known (E.taken err.old) some) }
+    ensures no_count_falls { E.faults err.old ≤ E.faults err.new }
+{
+    if text.is_empty() {
+        put_text(
+            err,
+            b"copar: these words ask for nothing; no memory to say more\n",
+        );
+    } else {
+        put_text(err, text);
+    }
+}
 
 /// Writes the line of a status, in pieces and without memory. A fault of the sink ends the line.
 pub(crate) fn put_line<E: Sink>(err: &mut E, status: Status)

@@ -6,3 +6,4 @@ pub mod Order
 pub mod Bounds
 pub mod NormalForms
 pub mod Laws
+pub mod Contents

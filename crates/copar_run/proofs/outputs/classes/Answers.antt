@@ -1,5 +1,6 @@
 use Rattle.std.proofs.Common.{◌≡◌, ◌∙◌, IsTrue, true, sym, subst}
 use Rattle.std.specs.List.{list_all}
+use Rattle.typing.specs.Contents.{content_of}
 use Rattle.typing.specs.Values.{states_below}
 use Rattle.typing.specs.Stable.{IsStable}
 use Rattle.quotient_writer.specs.Blocks.{AreFirsts, first_states}
@@ -15,28 +16,41 @@ use Rattle.copar_run.proofs.outputs.classes.Goals as goal
 pub class_numbers-requires-clause-firsts : goal.class_numbers-requires-clause-firsts
 class_numbers-requires-clause-firsts c =
     let is = c.in_ok-firsts in
-    subst AreFirsts (sym c.as_slice.ensures.value) (are_firsts c.args.c.now.term c.args.c.now.values.items is.firsts.items is.ensures.stable is.ensures.coarsest is.ensures.first)
+    subst AreFirsts (sym c.as_slice.ensures.value)
+    (are_firsts c.args.c.now.term c.args.c.now.values.items is.firsts.items is.ensures.stable
+    is.ensures.coarsest is.ensures.first)
 
 pub returns-clause-classes : goal.returns-clause-classes
 returns-clause-classes c =
     let is = c.in_ok-firsts in
-    if_both c.class_numbers.result (λ labels. IsTrue (is_numbered labels.items)) (λ labels. first_states labels.items ≡ c.as_slice.result.now)
-    (λ labels. AreClasses c.args.c.now.term c.args.c.now.values.items labels.items)
-    (λ labels numbered same. are_classes c.args.c.now.term c.args.c.now.values.items is.firsts.items labels.items is.ensures.stable is.ensures.coarsest (same ∙ c.as_slice.ensures.value) numbered)
+    if_both c.class_numbers.result (λ labels. IsTrue (is_numbered labels.items))
+    (λ labels. first_states labels.items ≡ c.as_slice.result.now)
+    (λ labels. AreClasses (content_of c.args.c.now) labels.items)
+    (λ labels numbered same. are_classes (content_of c.args.c.now) is.firsts.items labels.items
+    is.ensures.stable is.ensures.coarsest (same ∙ c.as_slice.ensures.value) numbered)
     c.class_numbers.ensures.numbered c.class_numbers.ensures.same_classes
 
 pub returns-clause-stable : goal.returns-clause-stable
 returns-clause-stable c =
     let is = c.in_ok-firsts in
-    if_both c.class_numbers.result (λ labels. IsTrue (is_numbered labels.items)) (λ labels. first_states labels.items ≡ c.as_slice.result.now)
-    (λ labels. IsStable c.args.c.now.term c.args.c.now.values.items labels.items)
-    (λ labels numbered same. labels-stable c.args.c.now.term c.args.c.now.values.items is.firsts.items is.ensures.stable is.ensures.coarsest labels.items (same ∙ c.as_slice.ensures.value) (subst (λ n. list_all (states_below n) c.args.c.now.values.items ≡ true) (sym c.args.c.now.one_each) c.args.c.now.in_range))
+    let source = c.args.c.now in
+    if_both c.class_numbers.result (λ labels. IsTrue (is_numbered labels.items))
+    (λ labels. first_states labels.items ≡ c.as_slice.result.now)
+    (λ labels. IsStable source.term source.values.items labels.items)
+    (λ labels numbered same. labels-stable source.term source.values.items is.firsts.items
+    is.ensures.stable is.ensures.coarsest labels.items (same ∙ c.as_slice.ensures.value)
+    (subst (λ n. list_all (states_below n) source.values.items ≡ true) (sym source.one_each)
+    source.in_range))
     c.class_numbers.ensures.numbered c.class_numbers.ensures.same_classes
 
 pub returns-clause-blocks : goal.returns-clause-blocks
 returns-clause-blocks c =
     let is = c.in_ok-firsts in
-    if_both c.class_numbers.result (λ labels. IsTrue (is_numbered labels.items)) (λ labels. first_states labels.items ≡ c.as_slice.result.now)
-    (λ labels. AreBlocks c.args.c.now.term c.args.c.now.values.items (first_states labels.items))
-    (λ labels numbered same. subst (AreBlocks c.args.c.now.term c.args.c.now.values.items) (sym (same ∙ c.as_slice.ensures.value)) (are_blocks c.args.c.now.term c.args.c.now.values.items is.firsts.items is.ensures.stable is.ensures.coarsest is.ensures.first))
+    if_both c.class_numbers.result (λ labels. IsTrue (is_numbered labels.items))
+    (λ labels. first_states labels.items ≡ c.as_slice.result.now)
+    (λ labels. AreBlocks (content_of c.args.c.now) (first_states labels.items))
+    (λ labels numbered same. subst (AreBlocks (content_of c.args.c.now))
+    (sym (same ∙ c.as_slice.ensures.value))
+    (are_blocks (content_of c.args.c.now) is.firsts.items is.ensures.stable
+    is.ensures.coarsest is.ensures.first))
     c.class_numbers.ensures.numbered c.class_numbers.ensures.same_classes

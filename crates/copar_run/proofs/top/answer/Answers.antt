@@ -1,9 +1,59 @@
-use Rattle.std.proofs.Common.{◌≡◌, IfSome, Some, subst, sym}
-use Rattle.std.specs.FinMap as map
-use Rattle.copar_run.proofs.Ends.{judged_there}
+use Rattle.std.proofs.Common.{refl, sym, ap, subst, arith, inl, inr, ◌∙◌}
+use Rattle.std.proofs.Common.{⊎_elim}
+use Rattle.copar_run.specs.Outcome.{Ran, counts, met}
 use Rattle.copar_run.proofs.top.answer.Goals as goal
 
-pub returns-in-Ok-clause-judged : goal.returns-in-Ok-clause-judged
-returns-in-Ok-clause-judged g c =
-    judged_there c.output_for.result (g.F.Folder.files c.args.folder.now) c.args.name.now c.deref.result.now c.output_for.ensures.fault
-    (subst (λ bytes. IfSome (g.F.Folder.files c.args.folder.now) (λ files. map.get files c.args.name.now ≡ Some bytes)) (sym c.deref.ensures.value) c.in-Ok.ensures.whole_file)
+pub returns-clause-ends : goal.returns-clause-ends
+returns-clause-ends g c =
+    let (output, taken, none, ran) = c.ended.ensures.ends in
+    (0, output, omega arith, taken, none, ran)
+
+pub returns-clause-usage : goal.returns-clause-usage
+returns-clause-usage g c asks =
+    let (output, taken, none, ran) = c.ended.ensures.ends in
+    c.runs_end_so.ensures.usage _ _ _ _ _ output asks ran
+
+pub returns-clause-usage_only : goal.returns-clause-usage_only
+returns-clause-usage_only g c is =
+    let (output, taken, none, ran) = c.ended.ensures.ends in
+    c.runs_end_so.ensures.usage_only _ _ _ _ _ output ran is
+
+pub returns-clause-judged : goal.returns-clause-judged
+returns-clause-judged g c files request told asks stop =
+    let (output, taken, none, ran) = c.ended.ensures.ends in
+    c.runs_end_so.ensures.judged _ _ _ _ _ output files request ran told asks stop
+
+pub returns-clause-fault_is_told : goal.returns-clause-fault_is_told
+returns-clause-fault_is_told g c files request stage fault told asks reached cause =
+    let (output, taken, none, ran) = c.ended.ensures.ends in
+    c.runs_end_so.ensures.fault_is_told _ _ _ _ _ output files request stage fault ran told asks
+    reached cause
+
+pub returns-clause-read_fault : goal.returns-clause-read_fault
+returns-clause-read_fault g c request asks is =
+    let (output, taken, none, ran) = c.ended.ensures.ends in
+    c.runs_end_so.ensures.read_fault _ _ _ _ _ output request ran asks is
+
+pub returns-clause-reads_are_told : goal.returns-clause-reads_are_told
+returns-clause-reads_are_told g c other =
+    let (output, taken, none, ran) = c.ended.ensures.ends in
+    c.runs_end_so.ensures.reads_are_told _ _ _ _ _ output ran other
+
+pub returns-clause-writes_are_told : goal.returns-clause-writes_are_told
+returns-clause-writes_are_told g c other =
+    let (output, taken, none, ran) = c.ended.ensures.ends in
+    c.runs_end_so.ensures.writes_are_told _ _ _ _ _ output ran other
+
+pub returns-clause-untouched : goal.returns-clause-untouched
+returns-clause-untouched g c end other =
+    let (output, taken, none, ran) = c.ended.ensures.ends in
+    none (c.runs_end_so.ensures.nothing _ _ _ _ _ output ran end other) other
+
+pub returns-clause-headline : goal.returns-clause-headline
+returns-clause-headline g c files request subject told asks passes about quiet still =
+    let (output, taken, none, ran) = c.ended.ensures.ends in
+    ⊎_elim
+    (λ wanting. inl wanting)
+    (λ done. inr (done.0, (0, output, omega arith, done.1, taken)))
+    (c.runs_end_so.ensures.headline _ _ _ _ _ output files request subject ran told asks passes
+    about quiet still)

@@ -1,13 +1,48 @@
-use Rattle.std.proofs.Common.{◌∙◌, sym, ap}
+use Rattle.std.proofs.Common.{◌≡◌, [], refl, sym, ap, ◌∙◌, take, subst}
 use Rattle.std.specs.Io.KnownBytes.{append_known}
-use Rattle.copar_run.proofs.Ends.{answered}
+use Rattle.command_line.specs.Asked.{denoted}
+use Rattle.copar_run.specs.Outcome.{counts, met}
+use Rattle.copar_run.proofs.Making.{end-halted, end-written, end-failed}
+use Rattle.copar_run.proofs.Prefixes.{append_known_none}
 use Rattle.copar_run.proofs.top.work.Goals as goal
 
-pub returns-then-put_all-clause-written : goal.returns-then-put_all-clause-written
-returns-then-put_all-clause-written g c = (
+pub returns-then-put_all-clause-ends : goal.returns-then-put_all-clause-ends
+returns-then-put_all-clause-ends g c = (
   c.in-Ok.output.items,
-  c.put_all.ensures.whole c.if-put_all.true ∙ ap (append_known (g.O.Sink.taken c.args.out.now)) c.deref.ensures.value,
-  answered c.args.words.now (g.F.Folder.files c.args.folder.now) c.in-Some.command c.in-Some.name.now c.in-Ok.output.items
-      (sym c.in-Some.ensures.command) (sym c.in-Some.ensures.file) c.in-Ok.ensures.output,
-  λ _ none. c.put_all.ensures.no_call_for_no_byte (c.deref.ensures.value ∙ none),
+  c.put_all.ensures.whole c.if-put_all.true
+      ∙ ap (append_known (g.O.Sink.taken c.args.out.now)) c.deref.ensures.value,
+  (λ none other. c.put_all.ensures.no_call_for_no_byte (c.deref.ensures.value ∙ none)),
+  end-written (denoted c.args.request)
+      (met (g.F.Folder.files c.args.folder.now) (g.F.Folder.faults c.args.folder.now)
+      (g.F.Folder.faults c.output_over.new.folder))
+      (counts (g.O.Sink.faults c.args.out.now) (g.O.Sink.faults c.put_all.new.sink))
+      c.in-Ok.output.items c.in-Ok.ensures.made
+      (c.put_all.ensures.success_counts_nothing c.if-put_all.true),
+)
+
+pub returns-in-Ok-clause-ends : goal.returns-in-Ok-clause-ends
+returns-in-Ok-clause-ends g c =
+    let (n, taken) = c.put_all.ensures.front in (
+      take n c.in-Ok.output.items,
+      taken ∙ ap (λ text. append_known (g.O.Sink.taken c.args.out.now) (take n text))
+          c.deref.ensures.value,
+      (λ none other. absurd (other refl)),
+      end-failed (denoted c.args.request)
+          (met (g.F.Folder.files c.args.folder.now) (g.F.Folder.faults c.args.folder.now)
+          (g.F.Folder.faults c.output_over.new.folder))
+          (counts (g.O.Sink.faults c.args.out.now) (g.O.Sink.faults c.put_all.new.sink))
+          c.in-Ok.output.items n c.in-Ok.ensures.made
+          (c.put_all.ensures.failure_is_counted c.if-put_all.false),
+    )
+
+pub returns-clause-ends : goal.returns-clause-ends
+returns-clause-ends g c = (
+  [],
+  sym (append_known_none (g.O.Sink.taken c.args.out.now)),
+  (λ none other. refl),
+  end-halted (denoted c.args.request)
+      (met (g.F.Folder.files c.args.folder.now) (g.F.Folder.faults c.args.folder.now)
+      (g.F.Folder.faults c.output_over.new.folder))
+      (counts (g.O.Sink.faults c.args.out.now) (g.O.Sink.faults c.args.out.now))
+      c.in-Err.status c.in-Err.ensures.halted refl,
 )
