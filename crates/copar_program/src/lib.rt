@@ -25,7 +25,7 @@ use system_outside::{DiskFolder, Stream};
 
 /// Runs the words of the command line, and says how that ended. Where they are no text, or there is
 /// no memory for them, nothing is run.
-pub fn program<R: Files + Env + AllocGlobal, O: Write, E: Write>(
+pub fn program<R: Files + Env + AllocGlobal, O: Write + Drop, E: Write + Drop>(
     rt: &R,
     out: O,
     err: E,
@@ -38,7 +38,7 @@ pub fn program<R: Files + Env + AllocGlobal, O: Write, E: Write>(
 }
 
 /// Runs these words over the files of the system, with a counter of its own.
-pub fn ran<R: Files + AllocGlobal, O: Write, E: Write>(
+pub fn ran<R: Files + AllocGlobal, O: Write + Drop, E: Write + Drop>(
     rt: &R,
     words: &WordList,
     out: O,

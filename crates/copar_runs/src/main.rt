@@ -1,0 +1,34 @@
+//! Command lines of copar over real files, one after another: each is printed, then what it wrote
+//! to either writer, and the number that the program would end with.
+#![tactic(auto)]
+
+use copar_program::ran;
+use copar_run::WordList;
+use std::io;
+
+/// The command lines. The files lie beside this program where it is run; `absent` is none of them.
+const LINES: &[&[&str]] = &[
+    &["blocks", "game.copar"],
+    &["minimise", "game.copar"],
+    &["minimise", "long.copar"],
+    &["blocks", "absent"],
+    &["blocks", "."],
+    &["blocks", "no_functor.copar"],
+    &["minimise", "no_such_state.copar"],
+    &["blocks", "not_built.copar"],
+];
+
+fn main(rt: HostRuntime) -> io::Result<()> {
+    for line in LINES {
+        let mut words = WordList::new(rt.alloc());
+        print!(rt; "$ copar")?;
+        for word in *line {
+            print!(rt; " {word}")?;
+            words.add(word)?;
+        }
+        println!(rt; "")?;
+        let status = ran(&rt, &words, rt.stdout(), rt.stdout());
+        println!(rt; "ends with {}", status.code())?;
+    }
+    Ok(())
+}

@@ -1,0 +1,7 @@
+//! Worked rows of the top call: files, words and failing outsides, and what each run gives.
+#![tactic(auto)]
+
+#[cfg(test)]
+mod tables;
+#[cfg(test)]
+mod tests;
