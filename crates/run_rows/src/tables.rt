@@ -248,10 +248,25 @@ pub(crate) const REFUSED: &[&[&str]] = &[
 
 /// Words, and how what is said of them begins.
 pub(crate) const COMPLAINTS: &[(&[&str], &[u8])] = &[
-    (&["frobnicate", "F"], b"copar: no such command: frobnicate\nusage: copar "),
-    (&["blocks", "F", "a"], b"copar: the command blocks takes one file and no further word\n"),
-    (&["minimise", "F", "--stats"], b"copar: the command minimise takes no --stats\n"),
+    (
+        &["frobnicate", "F"],
+        b"copar: no such command: frobnicate\nusage: copar ",
+    ),
+    (
+        &["blocks", "F", "a"],
+        b"copar: the command blocks takes one file and no further word\n",
+    ),
+    (
+        &["minimise", "F", "--stats"],
+        b"copar: the command minimise takes no --stats\n",
+    ),
     (&["blocks", ""], b"copar: an empty word names no file\n"),
-    (&["blocks"], b"error: the following required arguments were not provided:\n  <FILE>\n"),
-    (&["blocks", "F", "--stat"], b"error: unexpected argument '--stat' found\n"),
+    (
+        &["blocks"],
+        b"error: the following required arguments were not provided:\n  <FILE>\n",
+    ),
+    (
+        &["blocks", "F", "--stat"],
+        b"error: unexpected argument '--stat' found\n",
+    ),
 ];
