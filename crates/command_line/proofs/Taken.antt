@@ -255,7 +255,7 @@ plain-walk a f [] p =
     let two = both (is_plain f) true one.1 in (
       after_file a f,
       walks-more _ _ _ a (f ∷ []) (turn-action a one.0) (walk-action a one.0)
-      (walks-more _ _ _ f [] (turn-file a f two.0) (walk-file a f two.0) (walks-none _)),
+          (walks-more _ _ _ f [] (turn-file a f two.0) (walk-file a f two.0) (walks-none _)),
       ends-two a f,
     )
 plain-walk a f (r ∷ []) p =
@@ -264,9 +264,9 @@ plain-walk a f (r ∷ []) p =
     let three = both (is_plain r) true two.1 in (
       after_rest a f r,
       walks-more _ _ _ a (f ∷ r ∷ []) (turn-action a one.0) (walk-action a one.0)
-      (walks-more _ _ _ f (r ∷ []) (turn-file a f two.0) (walk-file a f two.0)
-      (walks-more _ _ _ r [] (turn-first a f r three.0) (walk-first a f r three.0)
-      (walks-none _))),
+          (walks-more _ _ _ f (r ∷ []) (turn-file a f two.0) (walk-file a f two.0)
+          (walks-more _ _ _ r [] (turn-first a f r three.0) (walk-first a f r three.0)
+          (walks-none _))),
       ends-three a f r,
     )
 plain-walk a f (r ∷ n ∷ rest) p =
@@ -278,9 +278,9 @@ plain-walk a f (r ∷ n ∷ rest) p =
     let (us, l, same, walks) = rest-walks a f (r ∷ []) n rest four.1 in (
       in_rest a f us l,
       walks-more _ _ _ a (f ∷ r ∷ n ∷ rest) (turn-action a one.0) (walk-action a one.0)
-      (walks-more _ _ _ f (r ∷ n ∷ rest) (turn-file a f two.0) (walk-file a f two.0)
-      (walks-more _ _ _ r (n ∷ rest) (turn-first a f r three.0) (walk-first a f r three.0)
-      (walks-more _ _ _ n rest (turn-second a f r n four.0) (walk-second a f r n four.0) walks))),
+          (walks-more _ _ _ f (r ∷ n ∷ rest) (turn-file a f two.0) (walk-file a f two.0)
+          (walks-more _ _ _ r (n ∷ rest) (turn-first a f r three.0) (walk-first a f r three.0)
+          (walks-more _ _ _ n rest (turn-second a f r n four.0) (walk-second a f r n four.0) walks))),
       subst (Ends (in_rest a f us l) a f) same (ends-more a f us l),
     )
 

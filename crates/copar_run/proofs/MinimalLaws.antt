@@ -25,8 +25,13 @@ are_classes c firsts labels stable coarsest same numbered = record {
   covers = count c.term c.values firsts stable coarsest labels same;
   numbered = numbered;
   alike = λ i j hi hj. (
-    λ e. (hi, hj, firsts, stable,
-        labels-part c.term c.values firsts stable coarsest labels same i j hi hj e),
+    λ e. (
+      hi,
+      hj,
+      firsts,
+      stable,
+      labels-part c.term c.values firsts stable coarsest labels same i j hi hj e,
+    ),
     λ e. labels-join c.term c.values firsts stable coarsest labels same i j e,
   );
 }

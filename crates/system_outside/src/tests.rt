@@ -14,7 +14,10 @@ fn an_absent_file_and_a_folder_fail_and_are_counted(rt: HostRuntime) {
         assert_eq!(rt; piece, Piece::Failed, "{name}");
     }
     assert_eq!(rt; folder.read_piece("/dev/null", 0, &mut buffer), Piece::End);
-    assert_eq!(rt; folder.read_piece("/dev/zero", 0, &mut buffer), Piece::Got(8));
+    assert_eq!(rt;
+        folder.read_piece("/dev/zero", 0, &mut buffer),
+        Piece::Got(8)
+    );
 }
 
 #[test]

@@ -1,0 +1,109 @@
+#!/usr/bin/env python3
+"""Holds the pages to the code. Silent where all is well; else a line for each finding, and 1.
+
+    docs/check.py
+
+What it looks at: each wrong body that a page names is an edit of the crate that the page is about, and
+each edit is named on its crate's page; each label in a table of a crate's page is one of that crate's;
+the map of the README has the crates of crates.txt in their order; what the README shows of a session is
+what the stored run of the program prints; docs/WORDS.md is what tools/words.py prints.
+"""
+import os
+import re
+import subprocess
+import sys
+
+ROOT = os.path.dirname(os.path.dirname(os.path.realpath(__file__)))
+NAME = re.compile(r"`([a-z][a-z0-9_]*)`")
+
+
+def text_of(*parts):
+    with open(os.path.join(ROOT, *parts)) as lines:
+        return lines.read()
+
+
+def crates():
+    lines = [line.split("#")[0].partition(":") for line in text_of("crates.txt").splitlines()]
+    return [name.split()[0] for name, colon, _ in lines if colon]
+
+
+def edits_of(crate):
+    folder = os.path.join(ROOT, "crates", crate, "must-fail")
+    return {f[:-5] for f in os.listdir(folder)} if os.path.isdir(folder) else set()
+
+
+def labels_of(crate):
+    found = set()
+    for folder, _, files in os.walk(os.path.join(ROOT, "crates", crate, "src")):
+        for file in files:
+            with open(os.path.join(folder, file)) as lines:
+                text = lines.read()
+            found |= set(re.findall(r"(?:ensures|requires|law|ghost) ([a-z_0-9]+) [{:=]", text))
+    return found
+
+
+def rows(text):
+    """The cells of each row of each table."""
+    for line in text.splitlines():
+        if line.startswith("|") and not re.match(r"^[|\s:-]+$", line):
+            yield [cell.strip() for cell in line.strip("|").split("|")]
+
+
+def crate_page(crate, labels):
+    page, edits = os.path.join("crates", crate, "README.md"), edits_of(crate)
+    if not os.path.isfile(os.path.join(ROOT, page)):
+        yield f"{page}: there is none"
+        return
+    named = set()
+    for cells in rows(text_of(page)):
+        if len(cells) != 4 or cells[0] == "Call" or cells[3].startswith("Wrong body"):
+            continue
+        for name in NAME.findall(cells[3]):
+            named.add(name)
+            if "_" in name and name not in edits:
+                yield f"{page}: no edit `{name}`"
+        for name in NAME.findall(cells[2]):
+            if name not in labels:
+                yield f"{page}: no label `{name}`"
+    for name in sorted(edits - named):
+        yield f"{page}: the edit `{name}` is not named"
+
+
+def top_page(page, edits):
+    for cells in rows(text_of(*page.split("/"))):
+        if len(cells) > 2 and not cells[-1].startswith("Wrong body"):
+            for name in NAME.findall(cells[-1]):
+                if "_" in name and name not in edits and name not in crates():
+                    yield f"{page}: no edit `{name}`"
+
+
+def session():
+    shown = re.search(r"\$ \./copar blocks examples/game\.copar\n(.*?)\$ ", text_of("README.md"), re.S)
+    if not shown or shown.group(1) != text_of("crates", "copar", "stdout"):
+        yield "README.md: the session is not the stored run of crates/copar"
+    if text_of("examples", "game.copar") != text_of("crates", "copar", "data", "game.copar"):
+        yield "crates/copar/data/game.copar: not the example"
+
+
+def findings():
+    names = crates()
+    edits = set().union(*(edits_of(name) for name in names))
+    labels = set().union(*(labels_of(name) for name in names))
+    for name in names:
+        yield from crate_page(name, labels)
+    for page in ("README.md", "docs/THEOREMS.md"):
+        yield from top_page(page, edits)
+    mapped = re.findall(r"^\| \[(\w+)\]\(crates/", text_of("README.md"), re.M)
+    if mapped != names:
+        yield "README.md: the map has not the crates of crates.txt in their order"
+    yield from session()
+    printed = subprocess.run([sys.executable, os.path.join(ROOT, "tools", "words.py")],
+                             capture_output=True, text=True, check=True).stdout
+    if printed != text_of("docs", "WORDS.md"):
+        yield "docs/WORDS.md: not what tools/words.py prints"
+
+
+if __name__ == "__main__":
+    FOUND = list(findings())
+    print("\n".join(FOUND), end="\n" if FOUND else "")
+    sys.exit(1 if FOUND else 0)
