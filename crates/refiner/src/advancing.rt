@@ -3,31 +3,37 @@
 ghost use Rattle.std.specs.Prelude.{◌≡◌, ◌+◌, ◌*◌, ◌<◌, ◌≤◌, ◌^◌, ◌==◌, if◌then◌else◌, ℕ, List, length, IfOk, slice_index};
 ghost use Rattle.refinable_partition.specs.Blocks.{block_at, states_of};
 ghost use Rattle.sorted_systems.specs.Systems.{IsSystem, IsGreatestStable, system_from};
+ghost use Rattle.refiner.specs.Cells.{AreCells, many_into, scanned};
 ghost use Rattle.refiner.specs.History.{IsRound, IsStart, Moment};
 ghost use Rattle.refiner.specs.declared.history.Start.{Start};
-ghost use Rattle.refiner.specs.Making.{AreNested, AreTorn, LeadsTo};
+ghost use Rattle.refiner.specs.Making.{AreAgreeing, AreNested, AreTorn, LeadsTo};
 ghost use Rattle.refiner.specs.Ready.{IsReady, moment_at};
 
-use crate::grouping::split_all;
+use crate::cells::Cells;
+use crate::gathering::edges_within;
 use crate::history::Round;
-use crate::picking::{add_waiting, find_torn};
+use crate::picking::{add_waiting, find_half};
 use crate::progress::Progress;
+use crate::splitting::split_touched;
 use crate::taking::{count_scans, take_out};
-use crate::valuing::all_values;
+use crate::updating::update_cells;
 use edge_store::EdgeStore;
 use iface::Iface;
+use modalities::Three;
 use outside::Steps;
 use std::alloc::{AllocError, Global};
 use std::sync::ledger::Ledger;
 
 /// One round: the block of x leaves its coarse block, of which it is not all, and each block splits
-/// by its members' values. Also how many labels were counted.
+/// by its members' values. Also how many edges lead into the block of x.
 fn one_round<I: Iface, L: Ledger>(
-    iface: &I,
     alloc: Global,
+    iface: &I,
     shapes: &[I::Shape],
     store: &EdgeStore<I::Label>,
     progress: &mut Progress,
+    values: &mut Vec<Three>,
+    cells: &mut Cells<I::Weight>,
     number: u32,
     x: u32,
     steps: &mut Steps<L>,
@@ -40,6 +46,12 @@ fn one_round<I: Iface, L: Ledger>(
     requires ready { IsReady store.now.0 number progress.old }
     requires nested { AreNested progress.old.blocks progress.old.coarse }
     requires torn { (y : ℕ) × AreTorn progress.old.blocks progress.old.coarse x y }
+    requires agreeing { AreAgreeing (I.agree iface.now) (system_from 0 shapes.now store.now.1)
+        (moment_at progress.old) }
+    requires one_value { length values.old.items ≡ store.now.0 }
+    requires cells { AreCells (I.toward iface.now) shapes.now store.now.1
+        (λ _. block_at progress.old.coarse) cells.old.of.items cells.old.weights.items }
+    requires room { length cells.old.weights.items + 2 ^ 26 ≤ 2 ^ 32 }
     ensures round { IfOk result (λ r. IsRound (I.node iface.now) (I.value iface.now)
         (system_from 0 shapes.now store.now.1) number (moment_at progress.old)
         (moment_at progress.new) r.0) }
@@ -53,31 +65,40 @@ fn one_round<I: Iface, L: Ledger>(
         slice_index progress.new.scans.items z ≡ slice_index progress.old.scans.items z
         + (if block_at progress.old.blocks z == r.0.splitter then 1 else 0)) }
     ensures rise { IfOk result (λ r. steps.new ≡ steps.old + r.1) }
-    ensures high { IfOk result (λ r. r.1 ≤ 3 * length store.now.1) }
+    ensures counted { IfOk result (λ r.
+        r.1 ≡ many_into progress.old.blocks r.0.splitter store.now.1) }
+    ensures one_value { IfOk result (λ _. length values.new.items ≡ store.now.0) }
+    ensures cells { IfOk result (λ _. AreCells (I.toward iface.now) shapes.now store.now.1
+        (λ _. block_at progress.new.coarse) cells.new.of.items cells.new.weights.items) }
+    ensures few_more { IfOk result (λ r.
+        length cells.new.weights.items ≤ length cells.old.weights.items + r.1) }
     ensures grows { steps.old ≤ steps.new }
 {
     let splitter = progress.blocks.block_of(x);
     let c = progress.coarse.block_of(x);
-    let (values, labels) = all_values(
-        iface,
+    // Sources and targets are states, and there are fewer than 2^26 edges.
+    let _states = store.states();
+    let _edges = store.len();
+    let _blocks = progress.blocks.blocks();
+    let edges = edges_within(alloc, store, &progress.blocks, splitter)?;
+    let moved = update_cells(
         alloc,
+        iface,
         shapes,
         store,
         &progress.blocks,
         &progress.coarse,
         splitter,
         c,
+        edges.as_slice(),
+        values,
+        cells,
         steps,
     )?;
     count_scans(&progress.blocks, splitter, &mut progress.scans);
     take_out(&progress.blocks, &mut progress.coarse, splitter, c);
-    let splits = split_all(alloc, &mut progress.blocks, values.as_slice())?;
-    add_waiting(
-        &progress.blocks,
-        &progress.coarse,
-        splits.as_slice(),
-        &mut progress.waiting,
-    )?;
+    let splits = split_touched(alloc, &mut progress.blocks, moved, values.as_slice())?;
+    add_waiting(&progress.blocks, splits.as_slice(), &mut progress.waiting)?;
     let coarse = progress.numbers[c as usize];
     let inner = 2 * number + 1;
     let outer = 2 * number + 2;
@@ -92,16 +113,18 @@ fn one_round<I: Iface, L: Ledger>(
         outer,
         splits,
     };
-    Ok((round, labels))
+    Ok((round, edges.len() as u64))
 }
 
 /// Rounds until each coarse block is one block. Also how many labels were counted.
 pub(crate) fn all_rounds<I: Iface, L: Ledger>(
-    iface: &I,
     alloc: Global,
+    iface: &I,
     shapes: &[I::Shape],
     store: &EdgeStore<I::Label>,
     progress: &mut Progress,
+    values: &mut Vec<Three>,
+    cells: &mut Cells<I::Weight>,
     steps: &mut Steps<L>,
 ) -> Result<(Vec<Round>, u64), AllocError>
     requires one_shape { length shapes.now ≡ store.now.0 }
@@ -113,6 +136,10 @@ pub(crate) fn all_rounds<I: Iface, L: Ledger>(
     requires ready { IsReady store.now.0 0 progress.old }
     requires starts { (start : List Start) × IsStart (I.node iface.now) (I.value iface.now)
         (system_from 0 shapes.now store.now.1) start (moment_at progress.old) }
+    requires one_value { length values.old.items ≡ store.now.0 }
+    requires cells { AreCells (I.toward iface.now) shapes.now store.now.1
+        (λ _. block_at progress.old.coarse) cells.old.of.items cells.old.weights.items }
+    requires few_cells { length cells.old.weights.items ≤ 2 ^ 26 }
     ensures history { IfOk result (λ r. (later : List Moment) ×
         LeadsTo (I.node iface.now) (I.value iface.now) (system_from 0 shapes.now store.now.1)
         (moment_at progress.old) later r.0.items (moment_at progress.new)
@@ -122,14 +149,18 @@ pub(crate) fn all_rounds<I: Iface, L: Ledger>(
     ensures states { IfOk result (λ _. states_of progress.new.blocks ≡ store.now.0) }
     ensures one_scan { IfOk result (λ _. length progress.new.scans.items ≡ store.now.0) }
     ensures rise { IfOk result (λ r. steps.new ≡ steps.old + r.1) }
-    ensures high { IfOk result (λ r. r.1 ≤ 2 ^ 58) }
+    ensures counted { IfOk result (λ r. r.1 ≡ scanned progress.new.scans.items store.now.1) }
     ensures grows { steps.old ≤ steps.new }
 {
+    // Targets are states.
+    let _states = store.states();
     let mut rounds = Vec::new(alloc);
     let mut labels = 0u64;
     let mut number = 0u32;
-    while let Some((x, _y)) = find_torn(&progress.blocks, &progress.coarse, &mut progress.waiting) {
-        let (round, many) = one_round(iface, alloc, shapes, store, progress, number, x, steps)?;
+    while let Some(x) = find_half(&progress.blocks, &progress.coarse, &mut progress.waiting) {
+        let (round, many) = one_round(
+            alloc, iface, shapes, store, progress, values, cells, number, x, steps,
+        )?;
         rounds.push(round)?;
         number += 1;
         labels += many;

@@ -1,14 +1,17 @@
 //! The public call.
 
-ghost use Rattle.std.specs.Prelude.{◌≡◌, ◌+◌, ◌<◌, ◌≤◌, ◌^◌, ℕ, List, length, slice_index, Contains, IfOk};
+ghost use Rattle.std.specs.Prelude.{◌≡◌, ◌+◌, ◌*◌, ◌<◌, ◌≤◌, ◌^◌, ℕ, List, length, slice_index, Contains, IfOk};
 ghost use Rattle.refinable_partition.specs.Blocks.{block_at, states_of};
 ghost use Rattle.sorted_systems.specs.Systems.{IsSystem, IsGreatestStable, system_from};
+ghost use Rattle.refiner.specs.Cells.{scanned};
 ghost use Rattle.refiner.specs.History.{Moment, IsLegal, AreHalves};
 
 use crate::advancing::all_rounds;
+use crate::cells::Cells;
 use crate::history::Refined;
+use crate::picking::list_blocks;
 use crate::progress::Progress;
-use crate::starting::{first_values, start_blocks};
+use crate::starting::{edge_sources, first_values, start_blocks};
 use edge_store::EdgeStore;
 use iface::Iface;
 use outside::Steps;
@@ -51,8 +54,8 @@ fn count_blocks(blocks: &Partition) -> u32
 /// (1987), as T. Wißmann, U. Dorsch, S. Milius and L. Schröder have it for functors, "Efficient and
 /// modular coalgebraic partition refinement" (2020).
 pub fn refine<I: Iface, L: Ledger>(
-    iface: &I,
     alloc: Global,
+    iface: &I,
     shapes: &[I::Shape],
     store: &EdgeStore<I::Label>,
     steps: &mut Steps<L>,
@@ -70,23 +73,39 @@ pub fn refine<I: Iface, L: Ledger>(
     ensures scans { IfOk result (λ r. (y : ℕ) → y < store.now.0 →
         2 ^ slice_index r.scans.items y ≤ store.now.0) }
     ensures rise { IfOk result (λ r. steps.new ≡ steps.old + r.labels) }
-    ensures labels { IfOk result (λ r. length store.now.1 ≤ r.labels) }
+    ensures labels { IfOk result (λ r.
+        r.labels ≡ length store.now.1 + scanned r.scans.items store.now.1) }
+    ensures few_labels { IfOk result (λ r. (k : ℕ) → store.now.0 < 2 ^ (k + 1) →
+        r.labels ≤ length store.now.1 * (1 + k)) }
     ensures grows { steps.old ≤ steps.new }
 {
     let n = store.states();
-    // There are fewer than 2^26 edges.
-    let _edges = store.len();
-    let (values, first_labels) = first_values(iface, alloc, shapes, store, steps)?;
+    let edges = store.len();
+    let (mut values, weights) = first_values(alloc, iface, shapes, store, steps)?;
+    let mut cells = Cells {
+        of: edge_sources(alloc, store)?,
+        weights,
+    };
     let mut progress = Progress::begun(alloc, n)?;
     let start = start_blocks(
-        iface,
         alloc,
+        iface,
         shapes,
         store,
         &mut progress.blocks,
         values.as_slice(),
     )?;
-    let (rounds, later_labels) = all_rounds(iface, alloc, shapes, store, &mut progress, steps)?;
+    list_blocks(&progress.blocks, &mut progress.waiting)?;
+    let (rounds, later_labels) = all_rounds(
+        alloc,
+        iface,
+        shapes,
+        store,
+        &mut progress,
+        &mut values,
+        &mut cells,
+        steps,
+    )?;
     let Progress { blocks, scans, .. } = progress;
     Ok(Refined {
         block_of: block_list(alloc, &blocks)?,
@@ -94,6 +113,6 @@ pub fn refine<I: Iface, L: Ledger>(
         start,
         rounds,
         scans,
-        labels: first_labels + later_labels,
+        labels: edges as u64 + later_labels,
     })
 }

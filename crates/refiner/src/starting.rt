@@ -2,8 +2,10 @@
 
 ghost use Rattle.std.specs.Prelude.{◌≡◌, ◌+◌, ◌<◌, ◌≤◌, ◌^◌, ℕ, length, map, IfOk};
 ghost use Rattle.modalities.specs.declared.three.Three.{Three};
+ghost use Rattle.edge_store.specs.Edges.{sources_of};
 ghost use Rattle.refinable_partition.specs.Blocks.{block_at, states_of};
 ghost use Rattle.sorted_systems.specs.Systems.{IsSystem, system_from};
+ghost use Rattle.refiner.specs.Cells.{AreWhole};
 ghost use Rattle.refiner.specs.Grouping.{IsUnmarked};
 ghost use Rattle.refiner.specs.History.{IsStart};
 ghost use Rattle.refiner.specs.Making.{AreValues, AreByNodeAndValue, first_moment};
@@ -18,42 +20,57 @@ use refinable_partition::Partition;
 use std::alloc::{AllocError, Global};
 use std::sync::ledger::Ledger;
 
-/// The value of each state where each target is 2, and how many labels were counted.
+/// The value of each state where each target is 2, and its weight towards all states.
 pub(crate) fn first_values<I: Iface, L: Ledger>(
-    iface: &I,
     alloc: Global,
+    iface: &I,
     shapes: &[I::Shape],
     store: &EdgeStore<I::Label>,
     steps: &mut Steps<L>,
-) -> Result<(Vec<Three>, u64), AllocError>
+) -> Result<(Vec<Three>, Vec<I::Weight>), AllocError>
     requires one_shape { length shapes.now ≡ store.now.0 }
     requires system { IsSystem (I.node iface.now) (I.kin iface.now) (I.fits iface.now)
         (system_from 0 shapes.now store.now.1) }
     requires steps_fit { steps.old ≤ 2 ^ 61 + 2 ^ 59 }
     ensures values { IfOk result (λ r. AreValues (I.value iface.now)
         (system_from 0 shapes.now store.now.1) (λ _. 2) r.0.items) }
-    ensures labels { IfOk result (λ r. r.1 ≡ length store.now.1) }
-    ensures rise { IfOk result (λ r. steps.new ≡ steps.old + r.1) }
+    ensures weights { IfOk result (λ r. AreWhole (I.toward iface.now) shapes.now store.now.1
+        store.now.0 r.1.items) }
+    ensures rise { IfOk result (λ _. steps.new ≡ steps.old + length store.now.1) }
     ensures grows { steps.old ≤ steps.new }
 {
     // `len` and `first_from` tell how many labels there are up to each state.
     let _edges = store.len();
     let mut values = Vec::new(alloc);
-    let mut labels = 0u64;
+    let mut weights = Vec::new(alloc);
     for x in 0..store.states() {
         let from = store.from_state(x);
         let _first = store.first_from(x);
-        let (_, three) = iface.init(alloc, &shapes[x as usize], from, steps)?;
+        let (weight, three) = iface.init(alloc, &shapes[x as usize], from, steps)?;
         values.push(three)?;
-        labels += from.len() as u64;
+        weights.push(weight)?;
     }
-    Ok((values, labels))
+    Ok((values, weights))
+}
+
+/// The source of each edge, in order.
+pub(crate) fn edge_sources<A: Copy>(
+    alloc: Global,
+    store: &EdgeStore<A>,
+) -> Result<Vec<u32>, AllocError>
+    ensures { IfOk result (λ v. v.items ≡ sources_of store.now.1) }
+{
+    let mut found = Vec::with_capacity(alloc, store.len() as usize)?;
+    for e in 0..store.len() {
+        found.push(store.source(e))?;
+    }
+    Ok(found)
 }
 
 /// The node of each state, as a value.
 fn node_values<I: Iface>(
-    iface: &I,
     alloc: Global,
+    iface: &I,
     shapes: &[I::Shape],
 ) -> Result<Vec<Three>, AllocError>
     ensures { IfOk result (λ v. v.items ≡ map (λ s. Three.Label (I.node iface.now s)) shapes.now) }
@@ -67,8 +84,8 @@ fn node_values<I: Iface>(
 
 /// The node and the value of each block.
 fn starts_of<I: Iface>(
-    iface: &I,
     alloc: Global,
+    iface: &I,
     shapes: &[I::Shape],
     store: &EdgeStore<I::Label>,
     blocks: &Partition,
@@ -96,8 +113,8 @@ fn starts_of<I: Iface>(
 
 /// Splits one block of all states by node and value.
 pub(crate) fn start_blocks<I: Iface>(
-    iface: &I,
     alloc: Global,
+    iface: &I,
     shapes: &[I::Shape],
     store: &EdgeStore<I::Label>,
     blocks: &mut Partition,
@@ -119,9 +136,9 @@ pub(crate) fn start_blocks<I: Iface>(
 {
     // Each state's block is below the count, now and after the splits.
     let _one = blocks.blocks();
-    let nodes = node_values(iface, alloc, shapes)?;
+    let nodes = node_values(alloc, iface, shapes)?;
     let _by_node = split_all(alloc, blocks, nodes.as_slice())?;
     let _by_value = split_all(alloc, blocks, values)?;
     let _live = blocks.blocks();
-    starts_of(iface, alloc, shapes, store, blocks, values)
+    starts_of(alloc, iface, shapes, store, blocks, values)
 }
