@@ -6,12 +6,12 @@ ghost use Rattle.sorted_systems.specs.Systems.{IsSystem, IsGreatestStable, syste
 ghost use Rattle.refiner.specs.Cells.{scanned};
 ghost use Rattle.refiner.specs.History.{Moment, IsLegal, AreHalves};
 
-use crate::advancing::all_rounds;
 use crate::cells::Cells;
-use crate::history::Refined;
-use crate::picking::list_blocks;
 use crate::progress::Progress;
-use crate::starting::{edge_sources, first_values, start_blocks};
+use crate::refined::Refined;
+use crate::round::all_rounds;
+use crate::splitter::list_blocks;
+use crate::start::{edge_sources, first_values, start_blocks};
 use edge_store::EdgeStore;
 use iface::Iface;
 use outside::Steps;
@@ -51,8 +51,8 @@ fn count_blocks(blocks: &Partition) -> u32
 /// memory.
 ///
 /// Source: the algorithm of R. Paige and R. E. Tarjan, "Three partition refinement algorithms"
-/// (1987), as T. Wißmann, U. Dorsch, S. Milius and L. Schröder have it for functors, "Efficient and
-/// modular coalgebraic partition refinement" (2020).
+/// (1987), as T. Wißmann, U. Dorsch, S. Milius and L. Schröder have it for functors, "Efficient
+/// and modular coalgebraic partition refinement" (2020).
 pub fn refine<I: Iface, L: Ledger>(
     alloc: Global,
     iface: &I,
@@ -66,15 +66,15 @@ pub fn refine<I: Iface, L: Ledger>(
         (system_from 0 shapes.now store.now.1) }
     requires steps_fit { steps.old ≤ 2 ^ 61 }
     ensures greatest { IfOk result (λ r. IsGreatestStable (I.agree iface.now)
-        (system_from 0 shapes.now store.now.1) r.block_of.items) }
+        (system_from 0 shapes.now store.now.1) r.block_of) }
     ensures legal { IfOk result (λ r. (first : Moment) × (later : List Moment) ×
         IsLegal (I.node iface.now) (I.value iface.now) (system_from 0 shapes.now store.now.1)
-        r first later × AreHalves first later r.rounds.items) }
+        r first later × AreHalves first later r.rounds) }
     ensures scans { IfOk result (λ r. (y : ℕ) → y < store.now.0 →
-        2 ^ slice_index r.scans.items y ≤ store.now.0) }
+        2 ^ slice_index r.scans y ≤ store.now.0) }
     ensures rise { IfOk result (λ r. steps.new ≡ steps.old + r.labels) }
     ensures labels { IfOk result (λ r.
-        r.labels ≡ length store.now.1 + scanned r.scans.items store.now.1) }
+        r.labels ≡ length store.now.1 + scanned r.scans store.now.1) }
     ensures few_labels { IfOk result (λ r. (k : ℕ) → store.now.0 < 2 ^ (k + 1) →
         r.labels ≤ length store.now.1 * (1 + k)) }
     ensures grows { steps.old ≤ steps.new }
@@ -96,7 +96,7 @@ pub fn refine<I: Iface, L: Ledger>(
         values.as_slice(),
     )?;
     list_blocks(&progress.blocks, &mut progress.waiting)?;
-    let (rounds, later_labels) = all_rounds(
+    let (history, later_labels) = all_rounds(
         alloc,
         iface,
         shapes,
@@ -111,7 +111,7 @@ pub fn refine<I: Iface, L: Ledger>(
         block_of: block_list(alloc, &blocks)?,
         blocks: count_blocks(&blocks),
         start,
-        rounds,
+        history,
         scans,
         labels: edges as u64 + later_labels,
     })
