@@ -111,6 +111,11 @@ pub(crate) fn split_touched(
     while from < moved.len() {
         let to = block_end(moved.as_slice(), from);
         let parent = moved[from].block;
+        // A block with one member has no parts.
+        if blocks.members(parent).len() < 2 {
+            from = to;
+            continue;
+        }
         split_block(
             alloc,
             blocks,
