@@ -1,5 +1,5 @@
 -- Rounds, splits and parts in arrays that grow at their ends.
-use Rattle.std.proofs.Common.{◌≡◌, ◌+◌, ◌-◌, ◌<◌, ◌≤◌, ◌∙◌, ℕ, List, [], ◌∷◌, ◌++◌, Some, length, length-append, get_or, take, drop, map, refl, sym, ap, subst, arith}
+use Rattle.std.proofs.Common.{◌≡◌, ◌-◌, ◌<◌, ◌≤◌, ◌∙◌, ℕ, List, [], ◌∷◌, ◌++◌, Some, length, length-append, get_or, take, drop, map, refl, ap, arith}
 use Rattle.std.specs.Prelude.{All, slice_get, slice_range, option_map}
 use Rattle.std.proofs.lemmas.List.{drop-append-le, take-append-le, map-append, length-drop}
 use Rattle.std.proofs.lemmas.List.Elements.{All-head, All-tail, All-take, All-drop}
@@ -8,7 +8,7 @@ use Rattle.std.proofs.Math.Seq.{drop-append_seam}
 use Rattle.refiner.specs.declared.parts.Part.{Part}
 use Rattle.refiner.specs.declared.rows.SplitRow.{SplitRow}
 use Rattle.refiner.specs.declared.rows.RoundRow.{RoundRow}
-use Rattle.refiner.specs.Recorded.{Split, Round, round_with}
+use Rattle.refiner.specs.Recorded.{Split, round_with}
 use Rattle.refiner.specs.Flat.{split_of, round_of, LiesWithin, AreOfParts}
 use Rattle.refiner.proofs.Keeps.{length-map}
 

@@ -1,4 +1,4 @@
-//! The next splitter: a block with at most half of the members of its coarse block, which it leaves.
+//! The next splitter: a block with at most half of the members of its coarse block. It leaves it.
 //!
 //! A list has a member of each block that may be such. What has been more than half of its coarse
 //! block is so until it splits, since coarse blocks only lose members. So no other block is looked

@@ -9,7 +9,7 @@ ghost use Rattle.refiner.specs.Cells.{AreCells, AreEdgesWithin, AreEdgesBetween,
 ghost use Rattle.refiner.specs.Making.{trit_in};
 ghost use Rattle.refiner.specs.Touched.{AreMoved};
 
-use crate::cells::{set_cells, Cells};
+use crate::cells::{Cells, set_cells};
 use crate::edges::{group_end, read_labels};
 use crate::moved::Moved;
 use edge_store::EdgeStore;
@@ -57,8 +57,8 @@ fn update_one<I: Iface, L: Ledger>(
     ensures cells { IfOk result (λ _. AreCells (I.toward iface.now) shapes.now store.now.1
         (class_below blocks.now coarse.now s (x + 1)) cells.new.of.items
         cells.new.weights.items) }
-    ensures three { IfOk result (λ r.
-        (shape : I.Shape) → slice_get shapes.now x ≡ Some shape → r.0 ≡ I.value iface.now shape (labels_from store.now.1 x)
+    ensures three { IfOk result (λ r. (shape : I.Shape) → slice_get shapes.now x ≡ Some shape →
+        r.0 ≡ I.value iface.now shape (labels_from store.now.1 x)
         (map (trit_in blocks.now coarse.now s c) (targets_from store.now.1 x))) }
     ensures void { IfOk result (λ r. (shape : I.Shape) → slice_get shapes.now x ≡ Some shape →
         r.1 ≡ I.value iface.now shape (labels_from store.now.1 x) (without_splitter
@@ -71,8 +71,12 @@ fn update_one<I: Iface, L: Ledger>(
     read_labels(store, edges, labels)?;
     let cell = cells.of[edges[0] as usize] as usize;
     let new = cells.weights.len() as u32;
-    let Update { part, three, void } =
-        iface.update(alloc, labels.as_slice(), &mut cells.weights[cell], steps)?;
+    let Update { part, three, void } = iface.update(
+        alloc,
+        labels.as_slice(),
+        &mut cells.weights[cell],
+        steps,
+    )?;
     cells.weights.push(part)?;
     set_cells(&mut cells.of, edges, new);
     Ok((three, void))
@@ -151,7 +155,11 @@ pub(crate) fn update_cells<I: Iface, L: Ledger>(
         if !(three == void) {
             values[x as usize] = three;
             let block = blocks.block_of(x);
-            moved.push(Moved { block, state: x, void })?;
+            moved.push(Moved {
+                block,
+                state: x,
+                void,
+            })?;
         }
         from = to;
     }

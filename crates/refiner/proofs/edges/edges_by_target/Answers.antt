@@ -1,9 +1,8 @@
-use Rattle.std.proofs.Common.{◌≡◌, ◌<◌, ◌∙◌, ◌++◌, length, get_or, sym, ap, subst, arith}
+use Rattle.std.proofs.Common.{◌<◌, ◌∙◌, sym, arith}
 use Rattle.std.proofs.lemmas.List.{get_or_default}
-use Rattle.std.proofs.lemmas.List.Elements.{All-nil}
 use Rattle.edge_store.specs.declared.edge.Edge.{Edge}
 use Rattle.refiner.specs.Cells.{target_at}
-use Rattle.refiner.proofs.Gathered.{AreGathered, gather_none, gather_more}
+use Rattle.refiner.proofs.Gathered.{gather_none, gather_more}
 use Rattle.refiner.proofs.Keeps.{length-map}
 use Rattle.refiner.proofs.edges.edges_by_target.Goals as goal
 
@@ -23,9 +22,12 @@ pub returns-clause-every : goal.returns-clause-every
 returns-clause-every g c = λ e he b.
     let t = target_at c.args.store.now.1 e in
     let ht : t < c.args.store.now.0 =
-    omega (arith, c.states-states.ensures.targets_in e 0
-    (omega (arith, he, length-map (λ (a : Edge _). a.target) c.args.store.now.1)),
-    c.states-states.ensures.states) in
+    omega (
+      arith,
+      c.states-states.ensures.targets_in e 0
+          (omega (arith, he, length-map (λ (a : Edge _). a.target) c.args.store.now.1)),
+      c.states-states.ensures.states,
+    ) in
     let found = c.members-members.ensures.members.every t (omega (arith, ht, c.requires.states)) b in
     c.loop-y.invariant.every found.0 e (omega (arith, found.1, c.loop-y-test.false)) he
     (sym (get_or_default c.members-members.result.now found.0 0 t found.1 ∙ found.2))

@@ -13,8 +13,11 @@ loop-e-preserved g c =
     let e = get_or c.args.edges.now c.loop-e.e-index 0 in
     let a = c.label.result.now in
     let h : e < length labels =
-    omega (arith, c.requires.in_range c.loop-e.e-index 0 c.loop-e-test.true,
-    length-map (λ (e : Edge _). e.label) c.args.store.now.1) in
+    omega (
+      arith,
+      c.requires.in_range c.loop-e.e-index 0 c.loop-e-test.true,
+      length-map (λ (e : Edge _). e.label) c.args.store.now.1,
+    ) in
     let at : slice_get labels e ≡ Some a =
     slice_get_read labels (length labels) e a refl h (c.label.ensures.label a) in
     c.in_ok-push.ensures.items ∙ ap (λ l. l ++ a ∷ []) c.loop-e.invariant

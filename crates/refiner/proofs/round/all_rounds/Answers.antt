@@ -1,4 +1,4 @@
-use Rattle.std.proofs.Common.{◌≡◌, ◌+◌, ◌*◌, ◌<◌, ◌≤◌, ◌^◌, ◌∙◌, ◌++◌, ◌∷◌, [], ℕ, length, get_or, ap, sym, refl, subst, arith}
+use Rattle.std.proofs.Common.{◌*◌, ◌<◌, ◌≤◌, ◌∙◌, ◌++◌, ◌∷◌, [], ℕ, length, get_or, ap, sym, refl, subst, arith}
 use Rattle.std.proofs.lemmas.List.{length_push}
 use Rattle.sorted_systems.specs.Systems.{system_from}
 use Rattle.refiner.specs.Cells.{scanned, target_at}
@@ -139,8 +139,13 @@ one_round-requires-clause-room g c =
     (moment_at c.args.progress.now) h.0 c.loop-x.history.rounds (moment_at p) p.scans.items
     c.requires.starts.0 25 h.1 c.requires.starts.1
     (omega (arith, n, c.requires.one_shape, c.requires.few_states)) low in
-    omega (arith, bound, c.loop-x.invariant.counted, c.loop-x.invariant.few_cells,
-    c.requires.few_edges)
+    omega (
+      arith,
+      bound,
+      c.loop-x.invariant.counted,
+      c.loop-x.invariant.few_cells,
+      c.requires.few_edges,
+    )
 
 pub one_round-requires-clause-steps_fit : goal.one_round-requires-clause-steps_fit
 one_round-requires-clause-steps_fit g c =
@@ -158,8 +163,14 @@ one_round-requires-clause-steps_fit g c =
     (moment_at c.args.progress.now) h.0 c.loop-x.history.rounds (moment_at p) p.scans.items
     c.requires.starts.0 25 h.1 c.requires.starts.1
     (omega (arith, n, c.requires.one_shape, c.requires.few_states)) low in
-    omega (arith, bound, c.loop-x.invariant.counted, c.loop-x.invariant.rise,
-    c.requires.few_edges, c.requires.steps_fit)
+    omega (
+      arith,
+      bound,
+      c.loop-x.invariant.counted,
+      c.loop-x.invariant.rise,
+      c.requires.few_edges,
+      c.requires.steps_fit,
+    )
 
 pub overflow_add-labels : goal.overflow_add-labels
 overflow_add-labels g c =
@@ -177,8 +188,14 @@ overflow_add-labels g c =
     (moment_at c.args.progress.now) h.0 c.loop-x.history.rounds (moment_at p) p.scans.items
     c.requires.starts.0 25 h.1 c.requires.starts.1
     (omega (arith, n, c.requires.one_shape, c.requires.few_states)) low in
-    omega (arith, bound, c.loop-x.invariant.counted, c.in_ok-numbers.ensures.counted,
-    few_into E p.blocks c.in_ok-numbers.numbers.splitter, c.requires.few_edges)
+    omega (
+      arith,
+      bound,
+      c.loop-x.invariant.counted,
+      c.in_ok-numbers.ensures.counted,
+      few_into E p.blocks c.in_ok-numbers.numbers.splitter,
+      c.requires.few_edges,
+    )
 
 pub loop-x-preserved : goal.loop-x-preserved
 loop-x-preserved g c =

@@ -1,4 +1,4 @@
-use Rattle.std.proofs.Common.{◌≡◌, ◌+◌, ◌*◌, ◌<◌, ◌==◌, ◌∙◌, ℕ, cond, List, length, get_or, set, ap, sym, refl, subst, inl, inr, arith}
+use Rattle.std.proofs.Common.{◌≡◌, ◌+◌, ◌*◌, ◌<◌, ◌==◌, ◌∙◌, ℕ, List, length, get_or, set, ap, sym, refl, subst, inl, inr, arith}
 use Rattle.std.proofs.lemmas.List.{get_or_read, length_push, length-set}
 use Rattle.std.proofs.lemmas.Bool.{cases_eq}
 use Rattle.modalities.specs.declared.three.Three.{Three}
@@ -53,19 +53,28 @@ update_cells-requires-clause-edges g c =
 
 pub update_cells-requires-clause-few : goal.update_cells-requires-clause-few
 update_cells-requires-clause-few g c =
-    omega (arith, ap length c.as_slice.ensures.value,
-    as_many c.args.store.now.1 c.args.progress.now.blocks c.block_of-splitter.result
-    c.edges_within.new.found.items c.in_ok-edges_within.ensures,
-    few_into c.args.store.now.1 c.args.progress.now.blocks c.block_of-splitter.result,
-    c.len-edges.ensures.edges, c.len-edges.ensures.few)
+    omega (
+      arith,
+      ap length c.as_slice.ensures.value,
+      as_many c.args.store.now.1 c.args.progress.now.blocks c.block_of-splitter.result
+          c.edges_within.new.found.items c.in_ok-edges_within.ensures,
+      few_into c.args.store.now.1 c.args.progress.now.blocks c.block_of-splitter.result,
+      c.len-edges.ensures.edges,
+      c.len-edges.ensures.few,
+    )
 
 pub update_cells-requires-clause-room : goal.update_cells-requires-clause-room
 update_cells-requires-clause-room g c =
-    omega (arith, ap length c.as_slice.ensures.value,
-    as_many c.args.store.now.1 c.args.progress.now.blocks c.block_of-splitter.result
-    c.edges_within.new.found.items c.in_ok-edges_within.ensures,
-    few_into c.args.store.now.1 c.args.progress.now.blocks c.block_of-splitter.result,
-    c.len-edges.ensures.edges, c.len-edges.ensures.few, c.requires.room)
+    omega (
+      arith,
+      ap length c.as_slice.ensures.value,
+      as_many c.args.store.now.1 c.args.progress.now.blocks c.block_of-splitter.result
+          c.edges_within.new.found.items c.in_ok-edges_within.ensures,
+      few_into c.args.store.now.1 c.args.progress.now.blocks c.block_of-splitter.result,
+      c.len-edges.ensures.edges,
+      c.len-edges.ensures.few,
+      c.requires.room,
+    )
 
 pub split_touched-requires-clause-told : goal.split_touched-requires-clause-told
 split_touched-requires-clause-told g c =
@@ -135,14 +144,16 @@ add_waiting-requires g c =
     let cut : AreCut all p.count p c.split_touched.new.blocks c.split_touched.new.history.splits =
     c.in_ok-split_touched.ensures.cut all voids moved one in
     rw c.open_splits-splits.ensures
-    (record { live = λ i d h j e l. (
-    let by_ = cut.cuts i d h in
-    let s : Split = get_or c.split_touched.new.history.splits i d in
-    let part : Part = get_or s.parts j e in
-    elim (cases_eq part.block s.parent) [
-      | inl same ↦ omega (arith, same, by_.live, cut.grown)
-      | inr other ↦ (let f = by_.others_new j e l other in f.1)
-    ]); })
+    (record {
+      live = λ i d h j e l. (
+          let by_ = cut.cuts i d h in
+          let s : Split = get_or c.split_touched.new.history.splits i d in
+          let part : Part = get_or s.parts j e in
+          elim (cases_eq part.block s.parent) [
+            | inl same ↦ omega (arith, same, by_.live, cut.grown)
+            | inr other ↦ (let f = by_.others_new j e l other in f.1)
+          ]);
+    })
 
 pub returns-clause-round : goal.returns-clause-round
 returns-clause-round g c =

@@ -1,4 +1,4 @@
-use Rattle.std.proofs.Common.{◌≡◌, ◌∙◌, arith}
+use Rattle.std.proofs.Common.{◌∙◌}
 use Rattle.refiner.proofs.Marks.{marks_more, only_more}
 use Rattle.refiner.proofs.split.mark_moved.Goals as goal
 

@@ -1,11 +1,10 @@
-use Rattle.std.proofs.Common.{◌≡◌, ◌≢◌, ◌+◌, ◌-◌, ◌<◌, ◌≤◌, ◌∙◌, ℕ, List, [], ◌∷◌, ◌++◌, length, get_or, take, drop, sym, ap, refl, subst, arith, rules}
+use Rattle.std.proofs.Common.{◌≡◌, ◌≢◌, ◌+◌, ◌-◌, ◌<◌, ◌≤◌, ◌∙◌, ℕ, List, length, get_or, take, drop, sym, ap, refl, subst, arith, rules}
 use Rattle.std.proofs.lemmas.List.{length-take-le, length-drop}
 use Rattle.std.proofs.lemmas.List.Sorted.{IsNonDecreasingBy-from_sort_by_key}
-use Rattle.modalities.specs.declared.three.Three.{Three}
 use Rattle.refinable_partition.specs.Blocks.{block_at, states_of}
 use Rattle.refiner.specs.declared.moved.Moved.{Moved}
 use Rattle.refiner.specs.Recorded.{Split}
-use Rattle.refiner.specs.Grouping.{value_at, AreCut, IsCut}
+use Rattle.refiner.specs.Grouping.{value_at, AreCut}
 use Rattle.refiner.specs.Touched.{AreMovedOf}
 use Rattle.refiner.proofs.BlockByBlock.{below_none, moved_sorted, run_told, run_kept, run_pushed, run_single, so_far, beyond, skipped}
 use Rattle.refiner.proofs.split.split_touched.Goals as goal
@@ -101,8 +100,12 @@ split_block-requires c =
     omega (arith, c.blocks-live.ensures.in_range m.state s.0, s.1, c.blocks-live.ensures.blocks)) in
     let run = take (to - from) (drop from sorted) in
     let some : 0 < length run =
-    omega (arith, c.block_end-to.ensures.later, within,
-    length-take-le (to - from) (drop from sorted) (omega (arith, length-drop from sorted))) in
+    omega (
+      arith,
+      c.block_end-to.ensures.later,
+      within,
+      length-take-le (to - from) (drop from sorted) (omega (arith, length-drop from sorted)),
+    ) in
     record {
       some = subst (λ (ys : List Moved). 0 < length (take (to - from) (drop from ys)))
           (sym c.deref.ensures.value) some;
@@ -112,8 +115,8 @@ split_block-requires c =
         subst (λ (ys : List Moved). AreMovedOf values t.0 (value_at t.1 m.state) q m.block
             (take (to - from) (drop from ys))) (sym c.deref.ensures.value)
             (run_told values t.0 t.1 p sorted told0 t.3 rises q splits inv.0
-    from cut0 inv.1.before to m c.block_end-to.ensures.later within
-    c.index.ensures low same other live),
+            from cut0 inv.1.before to m c.block_end-to.ensures.later within
+            c.index.ensures low same other live),
       );
       one_each = c.requires.one_each ∙ sym cut0.states;
       unmarked = cut0.unmarked;
@@ -165,11 +168,11 @@ loop-from-preserved-then-members-lt2 c =
         m.block + 1,
         record {
           before = so_far values t.0 t.1 p sorted told0 t.3 rises q splits inv.0
-    from cut0 inv.1.before to m c.block_end-to.ensures.later within
-    c.index.ensures low same other;
+              from cut0 inv.1.before to m c.block_end-to.ensures.later within
+              c.index.ensures low same other;
           after = beyond values t.0 t.1 p sorted told0 t.3 rises q splits inv.0
-    from cut0 inv.1.before to m c.block_end-to.ensures.later within
-    c.index.ensures low same other;
+              from cut0 inv.1.before to m c.block_end-to.ensures.later within
+              c.index.ensures low same other;
           small = omega (arith, live);
           cut = λ all voids told one. (
               let told1 = moved_sorted values all voids p c.args.moved.now.items sorted
@@ -228,26 +231,26 @@ loop-from-preserved c =
         m.block + 1,
         record {
           before = so_far values t.0 t.1 p sorted told0 t.3 rises q splits inv.0
-    from cut0 inv.1.before to m c.block_end-to.ensures.later within
-    c.index.ensures low same other;
+              from cut0 inv.1.before to m c.block_end-to.ensures.later within
+              c.index.ensures low same other;
           after = beyond values t.0 t.1 p sorted told0 t.3 rises q splits inv.0
-    from cut0 inv.1.before to m c.block_end-to.ensures.later within
-    c.index.ensures low same other;
+              from cut0 inv.1.before to m c.block_end-to.ensures.later within
+              c.index.ensures low same other;
           small = omega (arith, live);
           cut = λ all voids told one. (
               let told1 = moved_sorted values all voids p c.args.moved.now.items sorted
               c.sort_unstable_by_key.ensures.permutation told in
               let cut1 = inv.1.cut all voids told one in
               run_kept values all voids p sorted told1 one rises q splits inv.0
-    from cut1 inv.1.before to m c.block_end-to.ensures.later within
-    c.index.ensures low same other live
+              from cut1 inv.1.before to m c.block_end-to.ensures.later within
+              c.index.ensures low same other live
               c.split_block.new.blocks c.split_block.new.parts.items
               (c.in_ok-split_block.ensures all (value_at voids m.state)
               (subst (λ (ys : List Moved). AreMovedOf values all (value_at voids m.state) q m.block
               (take (to - from) (drop from ys))) (sym c.deref.ensures.value)
               (run_told values all voids p sorted told1 one rises q splits inv.0
-    from cut1 inv.1.before to m c.block_end-to.ensures.later within
-    c.index.ensures low same other live)))
+              from cut1 inv.1.before to m c.block_end-to.ensures.later within
+              c.index.ensures low same other live)))
               (omega arith));
         },
       );
@@ -299,11 +302,11 @@ loop-from-preserved-in_ok-add_split c =
         m.block + 1,
         record {
           before = so_far values t.0 t.1 p sorted told0 t.3 rises q splits inv.0
-    from cut0 inv.1.before to m c.block_end-to.ensures.later within
-    c.index.ensures low same other;
+              from cut0 inv.1.before to m c.block_end-to.ensures.later within
+              c.index.ensures low same other;
           after = beyond values t.0 t.1 p sorted told0 t.3 rises q splits inv.0
-    from cut0 inv.1.before to m c.block_end-to.ensures.later within
-    c.index.ensures low same other;
+              from cut0 inv.1.before to m c.block_end-to.ensures.later within
+              c.index.ensures low same other;
           small = omega (arith, live);
           cut = λ all voids told one. (
               let told1 = moved_sorted values all voids p c.args.moved.now.items sorted
@@ -312,15 +315,15 @@ loop-from-preserved-in_ok-add_split c =
               subst (λ (out : List Split). AreCut all (m.block + 1) p c.split_block.new.blocks out)
               (sym c.in_ok-add_split.ensures.splits)
               (run_pushed values all voids p sorted told1 one rises q splits inv.0
-    from cut1 inv.1.before to m c.block_end-to.ensures.later within
-    c.index.ensures low same other live
+              from cut1 inv.1.before to m c.block_end-to.ensures.later within
+              c.index.ensures low same other live
               c.split_block.new.blocks s refl
               (c.in_ok-split_block.ensures all (value_at voids m.state)
               (subst (λ (ys : List Moved). AreMovedOf values all (value_at voids m.state) q m.block
               (take (to - from) (drop from ys))) (sym c.deref.ensures.value)
               (run_told values all voids p sorted told1 one rises q splits inv.0
-    from cut1 inv.1.before to m c.block_end-to.ensures.later within
-    c.index.ensures low same other live)))
+              from cut1 inv.1.before to m c.block_end-to.ensures.later within
+              c.index.ensures low same other live)))
               (omega arith)));
         },
       );

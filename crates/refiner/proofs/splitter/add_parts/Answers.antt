@@ -1,5 +1,4 @@
-use Rattle.std.proofs.Common.{◌≡◌, ◌∙◌, sym, ap, get_or}
-use Rattle.refiner.specs.declared.parts.Part.{Part}
+use Rattle.std.proofs.Common.{get_or}
 use Rattle.refiner.proofs.Waiting.{parts_more}
 use Rattle.refiner.proofs.splitter.add_parts.Goals as goal
 

@@ -1,4 +1,4 @@
-use Rattle.std.proofs.Common.{◌≡◌, ◌<◌, ◌*◌, ◌∙◌, [], ◌∷◌, ◌++◌, arith, ap, sym, subst, inl, inr, length, get_or, ◌-◌, nat_lt, vec_len, Some, None}
+use Rattle.std.proofs.Common.{◌≡◌, ◌<◌, ◌∙◌, [], ◌∷◌, ◌++◌, arith, ap, sym, subst, inl, inr, length, get_or, ◌-◌, nat_lt, vec_len, Some, None}
 use Rattle.std.specs.Prelude.{All, slice_get}
 use Rattle.std.proofs.lemmas.Option.{slice_get_cases, none-some}
 use Rattle.refinable_partition.specs.Blocks.{states_of, size_in}
@@ -27,9 +27,14 @@ loop-x-preserved c =
     all_last (λ z. z < states_of p) after x
     (subst (λ xs. All (λ z. z < states_of p) xs) is c.loop-x.invariant.live) in
     waiting_popped p q before after x is c.requires.nested hx
-    (omega (arith, c.if-size-all.false, c.size-all.ensures.members, c.size-size.ensures.members,
-    ap (size_in q.block) c.block_of-in-Some.ensures.block,
-    ap (size_in p.block) c.block_of.ensures.block))
+    (omega (
+      arith,
+      c.if-size-all.false,
+      c.size-all.ensures.members,
+      c.size-size.ensures.members,
+      ap (size_in q.block) c.block_of-in-Some.ensures.block,
+      ap (size_in p.block) c.block_of.ensures.block,
+    ))
     c.loop-x.invariant
 
 pub returns : goal.returns

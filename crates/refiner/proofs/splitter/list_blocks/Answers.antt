@@ -1,5 +1,4 @@
-use Rattle.std.proofs.Common.{◌≡◌, ◌<◌, get_or, arith, subst}
-use Rattle.refiner.specs.Waiting.{AreListed}
+use Rattle.std.proofs.Common.{get_or}
 use Rattle.refiner.proofs.Waiting.{listed_none, listed_more}
 use Rattle.refiner.proofs.splitter.list_blocks.Goals as goal
 

@@ -1,4 +1,4 @@
-use Rattle.std.proofs.Common.{◌≡◌, ◌≢◌, ◌+◌, ◌-◌, ◌<◌, ◌≤◌, ◌∙◌, ℕ, List, [], ◌∷◌, ◌++◌, length, map, get_or, set, take, drop, sym, ap, refl, subst, arith}
+use Rattle.std.proofs.Common.{◌≡◌, ◌≢◌, ◌+◌, ◌-◌, ◌<◌, ◌∙◌, ℕ, List, length, map, take, drop, sym, refl, arith}
 use Rattle.std.proofs.lemmas.List.{length-take-le, length-drop, length-set}
 use Rattle.modalities.specs.declared.three.Three.{Three}
 use Rattle.iface.specs.Trits.{without_splitter}
@@ -7,7 +7,7 @@ use Rattle.sorted_systems.specs.Systems.{system_from}
 use Rattle.refiner.specs.Cells.{round_values, round_voids, source_at, target_at}
 use Rattle.refiner.specs.Grouping.{value_at}
 use Rattle.refiner.specs.Making.{trit_in}
-use Rattle.refiner.proofs.BySource.{AreUpdatedBelow, updated_none, cells_here, group_is, stays, leaves, moved_all, cells_all, value_in, untouched_alike, sources_rise}
+use Rattle.refiner.proofs.BySource.{updated_none, cells_here, group_is, stays, leaves, moved_all, cells_all, value_in, untouched_alike, sources_rise}
 use Rattle.refiner.proofs.RoundMade.{state_at}
 use Rattle.refiner.proofs.values.update_cells.Goals as goal
 
@@ -35,9 +35,12 @@ loop-from-init g c =
       one_value = c.requires.one_value;
       few_more = omega arith;
       rise = omega arith;
-      updating = (0, rw c.clear.ensures.items (updated_none toward shapes E p q s edges c.requires.edges all voids untouched rises
-          c.args.cells.now.of.items c.args.cells.now.weights.items c.args.values.now.items
-          c.requires.cells));
+      updating = (
+        0,
+        rw c.clear.ensures.items (updated_none toward shapes E p q s edges c.requires.edges all voids untouched rises
+            c.args.cells.now.of.items c.args.cells.now.weights.items c.args.values.now.items
+            c.requires.cells),
+      );
     }
 
 pub update_one-requires-clause-cells : goal.update_one-requires-clause-cells
@@ -97,10 +100,18 @@ update_one-requires-clause-group g c =
 pub update_one-requires-clause-few : goal.update_one-requires-clause-few
 update_one-requires-clause-few g c =
     let edges = c.args.edges.now in
-    omega (arith, length-take-le (c.group_end-to.result - c.loop-from.from)
-    (drop c.loop-from.from edges) (omega (arith, length-drop c.loop-from.from edges,
-    c.group_end-to.ensures.within, c.group_end-to.ensures.later)), c.requires.few,
-    c.group_end-to.ensures.within)
+    omega (
+      arith,
+      length-take-le (c.group_end-to.result - c.loop-from.from)
+          (drop c.loop-from.from edges) (omega (
+            arith,
+            length-drop c.loop-from.from edges,
+            c.group_end-to.ensures.within,
+            c.group_end-to.ensures.later,
+          )),
+      c.requires.few,
+      c.group_end-to.ensures.within,
+    )
 
 pub update_one-requires-clause-room : goal.update_one-requires-clause-room
 update_one-requires-clause-room g c =
@@ -108,8 +119,13 @@ update_one-requires-clause-room g c =
 
 pub update_one-requires-clause-steps_fit : goal.update_one-requires-clause-steps_fit
 update_one-requires-clause-steps_fit g c =
-    omega (arith, c.loop-from.invariant.rise, c.requires.few, c.loop-from-test.true,
-    c.requires.steps_fit)
+    omega (
+      arith,
+      c.loop-from.invariant.rise,
+      c.requires.few,
+      c.loop-from-test.true,
+      c.requires.steps_fit,
+    )
 
 pub loop-from-preserved : goal.loop-from-preserved
 loop-from-preserved g c =
@@ -145,25 +161,38 @@ loop-from-preserved g c =
     let many : length (take (c.group_end-to.result - c.loop-from.from) (drop c.loop-from.from edges))
     ≡ c.group_end-to.result - c.loop-from.from =
     length-take-le (c.group_end-to.result - c.loop-from.from) (drop c.loop-from.from edges)
-    (omega (arith, length-drop c.loop-from.from edges, c.group_end-to.ensures.within,
-    c.group_end-to.ensures.later)) in
+    (omega (
+      arith,
+      length-drop c.loop-from.from edges,
+      c.group_end-to.ensures.within,
+      c.group_end-to.ensures.later,
+    )) in
     let one : value_at all x ≡ value_at voids x =
     sym all_x ∙ c.eq.ensures.same.0 c.if-not-eq.false ∙ void_x in
     record {
       in_range = c.group_end-to.ensures.within;
       one_value = c.loop-from.invariant.one_value;
-      few_more = omega (arith, c.in_ok-three.ensures.one_more, c.loop-from.invariant.few_more,
-          c.group_end-to.ensures.later);
-      rise = omega (arith, c.in_ok-three.ensures.counted, c.loop-from.invariant.rise, many,
-          c.group_end-to.ensures.later);
+      few_more = omega (
+        arith,
+        c.in_ok-three.ensures.one_more,
+        c.loop-from.invariant.few_more,
+        c.group_end-to.ensures.later,
+      );
+      rise = omega (
+        arith,
+        c.in_ok-three.ensures.counted,
+        c.loop-from.invariant.rise,
+        many,
+        c.group_end-to.ensures.later,
+      );
       updating = (
         x + 1,
         stays toward shapes E p q s edges c.requires.edges all voids untouched rises
             c.loop-from.from inv.0 c.loop-from.cells.of.items
-    c.loop-from.cells.weights.items c.loop-from.values.items c.loop-from.moved.items inv.1
+            c.loop-from.cells.weights.items c.loop-from.values.items c.loop-from.moved.items inv.1
             c.group_end-to.result c.group_end-to.ensures.later
-    c.group_end-to.ensures.within c.source-x.result (sym c.source-x.ensures.source)
-    c.group_end-to.ensures.alike c.group_end-to.ensures.other
+            c.group_end-to.ensures.within c.source-x.result (sym c.source-x.ensures.source)
+            c.group_end-to.ensures.alike c.group_end-to.ensures.other
             c.update_one.new.cells.of.items c.update_one.new.cells.weights.items
             c.in_ok-three.ensures.cells one,
       );
@@ -203,26 +232,39 @@ loop-from-preserved-in_ok-push g c =
     let many : length (take (c.group_end-to.result - c.loop-from.from) (drop c.loop-from.from edges))
     ≡ c.group_end-to.result - c.loop-from.from =
     length-take-le (c.group_end-to.result - c.loop-from.from) (drop c.loop-from.from edges)
-    (omega (arith, length-drop c.loop-from.from edges, c.group_end-to.ensures.within,
-    c.group_end-to.ensures.later)) in
+    (omega (
+      arith,
+      length-drop c.loop-from.from edges,
+      c.group_end-to.ensures.within,
+      c.group_end-to.ensures.later,
+    )) in
     let ne : value_at all x ≢ value_at voids x = λ e.
     (let same = c.eq.ensures.same.1 (all_x ∙ e ∙ sym void_x) in cc) in
     record {
       in_range = c.group_end-to.ensures.within;
       one_value = length-set c.loop-from.values.items x c.in_ok-three.three
           ∙ c.loop-from.invariant.one_value;
-      few_more = omega (arith, c.in_ok-three.ensures.one_more, c.loop-from.invariant.few_more,
-          c.group_end-to.ensures.later);
-      rise = omega (arith, c.in_ok-three.ensures.counted, c.loop-from.invariant.rise, many,
-          c.group_end-to.ensures.later);
+      few_more = omega (
+        arith,
+        c.in_ok-three.ensures.one_more,
+        c.loop-from.invariant.few_more,
+        c.group_end-to.ensures.later,
+      );
+      rise = omega (
+        arith,
+        c.in_ok-three.ensures.counted,
+        c.loop-from.invariant.rise,
+        many,
+        c.group_end-to.ensures.later,
+      );
       updating = (
         x + 1,
         rw c.in_ok-push.ensures.items (leaves toward shapes E p q s edges c.requires.edges all voids untouched rises
             c.loop-from.from inv.0 c.loop-from.cells.of.items
-    c.loop-from.cells.weights.items c.loop-from.values.items c.loop-from.moved.items inv.1
+            c.loop-from.cells.weights.items c.loop-from.values.items c.loop-from.moved.items inv.1
             c.group_end-to.result c.group_end-to.ensures.later
-    c.group_end-to.ensures.within c.source-x.result (sym c.source-x.ensures.source)
-    c.group_end-to.ensures.alike c.group_end-to.ensures.other
+            c.group_end-to.ensures.within c.source-x.result (sym c.source-x.ensures.source)
+            c.group_end-to.ensures.alike c.group_end-to.ensures.other
             c.update_one.new.cells.of.items c.update_one.new.cells.weights.items
             c.in_ok-three.ensures.cells
             (record { block = c.block_of-block.result; state = x; void = c.in_ok-three.void })

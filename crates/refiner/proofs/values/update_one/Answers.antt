@@ -1,10 +1,10 @@
-use Rattle.std.proofs.Common.{◌≡◌, ◌<◌, ◌+◌, ◌∙◌, Some, List, [], ◌∷◌, ◌++◌, length, map, get_or, set, ℕ, sym, ap, refl, subst, arith}
-use Rattle.std.specs.Prelude.{slice_get, All}
+use Rattle.std.proofs.Common.{◌≡◌, ◌<◌, ◌∙◌, [], ◌∷◌, ◌++◌, length, map, get_or, set, ℕ, ap, subst, arith}
+use Rattle.std.specs.Prelude.{All}
 use Rattle.std.proofs.lemmas.List.{get_or_read}
 use Rattle.edge_store.specs.declared.edge.Edge.{Edge}
 use Rattle.edge_store.specs.Edges.{labels_of, labels_from, targets_from}
-use Rattle.refinable_partition.specs.Blocks.{block_at, states_of}
-use Rattle.refiner.specs.Cells.{target_at, labels_at}
+use Rattle.refinable_partition.specs.Blocks.{states_of}
+use Rattle.refiner.specs.Cells.{target_at}
 use Rattle.refiner.specs.Making.{trit_in}
 use Rattle.refiner.proofs.CellsStep.{cells_step}
 use Rattle.refiner.proofs.Keeps.{length-map}
@@ -32,15 +32,18 @@ update-requires-clause-cell g c =
     let hx : x < length c.args.shapes.now =
     (let t = source_low E c.states-states.result first c.states-states.ensures.sources_in first_is.0 in
     omega (arith, t, first_is.1, c.requires.one_shape, c.states-states.ensures.states)) in
-    let here = state_at c.args.shapes.now x hx in
-    (here.0, labels_from E x, map (trit_in p q c.args.s c.args.c) (targets_from E x),
-    (cell_of (g.I.Iface.node c.args.iface.now) (g.I.Iface.kin c.args.iface.now)
-    (g.I.Iface.fits c.args.iface.now) (g.I.Iface.toward c.args.iface.now) c.args.shapes.now E
-    c.requires.system p q c.args.s c.args.c x group c.requires.group
-    (λ e he. c.requires.in_range (target_at E e) (low e he))
-    (λ e he b. c.requires.within (target_at E e) (low e he) b) cells weights c.requires.cells
-    c.index.result.now c.index_mut.result.now c.as_slice.result.now here.0 here.1 k
-    c.index_mut.ensures.value (c.as_slice.ensures.value ∙ c.in_ok-read_labels.ensures)))
+    let here = state_at c.args.shapes.now x hx in (
+      here.0,
+      labels_from E x,
+      map (trit_in p q c.args.s c.args.c) (targets_from E x),
+      (cell_of (g.I.Iface.node c.args.iface.now) (g.I.Iface.kin c.args.iface.now)
+          (g.I.Iface.fits c.args.iface.now) (g.I.Iface.toward c.args.iface.now) c.args.shapes.now E
+          c.requires.system p q c.args.s c.args.c x group c.requires.group
+          (λ e he. c.requires.in_range (target_at E e) (low e he))
+          (λ e he b. c.requires.within (target_at E e) (low e he) b) cells weights c.requires.cells
+          c.index.result.now c.index_mut.result.now c.as_slice.result.now here.0 here.1 k
+          c.index_mut.ensures.value (c.as_slice.ensures.value ∙ c.in_ok-read_labels.ensures)),
+    )
 
 pub update-requires-clause-few : goal.update-requires-clause-few
 update-requires-clause-few g c =
@@ -48,8 +51,12 @@ update-requires-clause-few g c =
     let all : All (λ e. e < length labels) c.args.edges.now = λ k d h.
     (let e = c.requires.group.each k d h in
     omega (arith, e.0, length-map (λ (e : Edge _). e.label) c.args.store.now.1)) in
-    omega (arith, ap length (c.as_slice.ensures.value ∙ c.in_ok-read_labels.ensures),
-    length-labels_at labels c.args.edges.now all, c.requires.few)
+    omega (
+      arith,
+      ap length (c.as_slice.ensures.value ∙ c.in_ok-read_labels.ensures),
+      length-labels_at labels c.args.edges.now all,
+      c.requires.few,
+    )
 
 pub returns-clause-cells : goal.returns-clause-cells
 returns-clause-cells g c =
@@ -154,5 +161,9 @@ returns-clause-counted g c =
     let all : All (λ e. e < length labels) c.args.edges.now = λ k d h.
     (let e = c.requires.group.each k d h in
     omega (arith, e.0, length-map (λ (e : Edge _). e.label) c.args.store.now.1)) in
-    omega (arith, ap length (c.as_slice.ensures.value ∙ c.in_ok-read_labels.ensures),
-    length-labels_at labels c.args.edges.now all, c.in_ok-part.ensures.counted)
+    omega (
+      arith,
+      ap length (c.as_slice.ensures.value ∙ c.in_ok-read_labels.ensures),
+      length-labels_at labels c.args.edges.now all,
+      c.in_ok-part.ensures.counted,
+    )

@@ -1,4 +1,4 @@
-use Rattle.std.proofs.Common.{◌≡◌, ◌∙◌, ◌++◌, ◌∷◌, [], length, ap, arith}
+use Rattle.std.proofs.Common.{◌∙◌, ◌++◌, ◌∷◌, [], length, ap, arith}
 use Rattle.refiner.specs.Recorded.{Recorded}
 use Rattle.refiner.proofs.Ranges.{rounds_kept, splits_added}
 use Rattle.refiner.proofs.history.History.add_split.Goals as goal
