@@ -24,7 +24,7 @@ fn edges_by_target<A: Copy>(
         block_at blocks.now (target_at store.now.1 e) ≡ s → Contains found.new.items e) }
     ensures apart { IfOk result (λ _. AllPairs (λ d e. d ≢ e) found.new.items) }
 {
-    let _states = store.states();
+    store.is_stored();
     let members = blocks.members(s);
     found.clear();
     for y in members {

@@ -1,7 +1,6 @@
 //! The public call.
 
-ghost use Rattle.std.specs.Prelude.{◌≡◌, ◌+◌, ◌*◌, ◌<◌, ◌≤◌, ◌^◌, ℕ, List, length, slice_index, Contains, IfOk};
-ghost use Rattle.refinable_partition.specs.Blocks.{block_at, states_of};
+ghost use Rattle.std.specs.Prelude.{◌≡◌, ◌+◌, ◌*◌, ◌<◌, ◌≤◌, ◌^◌, ℕ, List, length, slice_index, IfOk};
 ghost use Rattle.sorted_systems.specs.Systems.{IsSystem, IsGreatestStable, system_from};
 ghost use Rattle.refiner.specs.Cells.{scanned};
 ghost use Rattle.refiner.specs.History.{Moment, IsLegal, AreHalves};
@@ -28,19 +27,6 @@ fn block_list(alloc: Global, blocks: &Partition) -> Result<Vec<u32>, AllocError>
         found.push(blocks.block_of(x))?;
     }
     Ok(found)
-}
-
-/// How many blocks there are. It looks at the members of each, and so sees that none is empty.
-fn count_blocks(blocks: &Partition) -> u32
-    ensures count { result ≡ blocks.now.count }
-    ensures in_range { (x : ℕ) → x < states_of blocks.now → block_at blocks.now x < result }
-    ensures none_empty { (b : ℕ) → b < result → Contains blocks.now.block b }
-{
-    let count = blocks.blocks();
-    for b in 0..count {
-        let _members = blocks.members(b);
-    }
-    count
 }
 
 /// The greatest stable labelling of the states with these shapes and edges, with a legal history of
@@ -107,9 +93,11 @@ pub fn refine<I: Iface, L: Ledger>(
         steps,
     )?;
     let Progress { blocks, scans, .. } = progress;
+    blocks.is_laid_out();
+    let count = blocks.blocks();
     Ok(Refined {
         block_of: block_list(alloc, &blocks)?,
-        blocks: count_blocks(&blocks),
+        blocks: count,
         start,
         history,
         scans,

@@ -83,10 +83,8 @@ fn one_round<I: Iface, L: Ledger>(
 {
     let splitter = progress.blocks.block_of(x);
     let c = progress.coarse.block_of(x);
-    // Sources and targets are states, and there are fewer than 2^26 edges.
-    let _states = store.states();
-    let _edges = store.len();
-    let _blocks = progress.blocks.blocks();
+    store.is_stored();
+    progress.blocks.is_laid_out();
     edges_within(store, &progress.blocks, splitter, &mut buffers.edges)?;
     update_cells(
         alloc,
@@ -123,7 +121,7 @@ fn one_round<I: Iface, L: Ledger>(
     progress.numbers[c as usize] = outer;
     progress.numbers.push(inner)?;
     // There are at most as many coarse blocks as states, so the rounds end.
-    let _few = progress.coarse.blocks();
+    progress.coarse.is_laid_out();
     let numbers = Numbers {
         splitter,
         coarse,
@@ -169,8 +167,7 @@ pub(crate) fn all_rounds<I: Iface, L: Ledger>(
     ensures counted { IfOk result (λ r. r.1 ≡ scanned progress.new.scans.items store.now.1) }
     ensures grows { steps.old ≤ steps.new }
 {
-    // Targets are states.
-    let _states = store.states();
+    store.is_stored();
     let mut history = History::new(alloc);
     let mut buffers = Buffers::new(alloc);
     let mut labels = 0u64;

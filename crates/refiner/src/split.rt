@@ -51,8 +51,7 @@ fn split_block(
         AreMovedOf values.now all void blocks.old b moved.now →
         IsCut all b blocks.old blocks.new parts.new.items) }
 {
-    // Each state's block is below the count.
-    let _live = blocks.blocks();
+    blocks.is_laid_out();
     mark_moved(blocks, moved);
     if let Some(new) = blocks.split_marked(b) {
         split_by_value(alloc, blocks, new, values, members, parts)?;
@@ -104,8 +103,7 @@ pub(crate) fn split_touched(
         AreCut all blocks.old.count blocks.old blocks.new history.new.splits) }
     ensures rounds { IfOk result (λ _. history.new.rounds ≡ history.old.rounds) }
 {
-    // Each state's block is below the count.
-    let _live = blocks.blocks();
+    blocks.is_laid_out();
     moved.sort_unstable_by_key(|m| m.block);
     let mut from = 0;
     while from < moved.len() {

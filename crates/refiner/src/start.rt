@@ -39,12 +39,12 @@ pub(crate) fn first_values<I: Iface, L: Ledger>(
     ensures rise { IfOk result (λ _. steps.new ≡ steps.old + length store.now.1) }
     ensures grows { steps.old ≤ steps.new }
 {
-    // `len` and `first_from` tell how many labels there are up to each state.
-    let _edges = store.len();
+    store.is_stored();
     let mut values = Vec::new(alloc);
     let mut weights = Vec::new(alloc);
     for x in 0..store.states() {
         let from = store.from_state(x);
+        // It tells how many labels there are up to this state.
         let _first = store.first_from(x);
         let (weight, three) = iface.init(alloc, &shapes[x as usize], from, steps)?;
         values.push(three)?;
@@ -135,11 +135,10 @@ pub(crate) fn start_blocks<I: Iface>(
     ensures in_range { IfOk result (λ _. (x : ℕ) → x < states_of blocks.new →
         block_at blocks.new x < blocks.new.count) }
 {
-    // Each state's block is below the count, now and after the splits.
-    let _one = blocks.blocks();
+    blocks.is_laid_out();
     let nodes = node_values(alloc, iface, shapes)?;
     let _by_node = split_all(alloc, blocks, nodes.as_slice())?;
     let _by_value = split_all(alloc, blocks, values)?;
-    let _live = blocks.blocks();
+    blocks.is_laid_out();
     starts_of(alloc, iface, shapes, store, blocks, values)
 }

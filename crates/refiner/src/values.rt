@@ -66,8 +66,7 @@ fn update_one<I: Iface, L: Ledger>(
     ensures counted { IfOk result (λ _. steps.new ≡ steps.old + length edges.now) }
     ensures grows { steps.old ≤ steps.new }
 {
-    // Sources and targets are states.
-    let _states = store.states();
+    store.is_stored();
     read_labels(store, edges, labels)?;
     let cell = cells.of[edges[0] as usize] as usize;
     let new = cells.weights.len() as u32;
@@ -130,8 +129,7 @@ pub(crate) fn update_cells<I: Iface, L: Ledger>(
     ensures counted { IfOk result (λ _. steps.new ≡ steps.old + length edges.now) }
     ensures grows { steps.old ≤ steps.new }
 {
-    let _states = store.states();
-    let _edges = store.len();
+    store.is_stored();
     moved.clear();
     let mut from = 0;
     while from < edges.len() {

@@ -24,9 +24,8 @@ returns-clause-every g c = λ e he b.
     let ht : t < c.args.store.now.0 =
     omega (
       arith,
-      c.states-states.ensures.targets_in e 0
+      c.is_stored.ensures.targets_in e 0
           (omega (arith, he, length-map (λ (a : Edge _). a.target) c.args.store.now.1)),
-      c.states-states.ensures.states,
     ) in
     let found = c.members-members.ensures.members.every t (omega (arith, ht, c.requires.states)) b in
     c.loop-y.invariant.every found.0 e (omega (arith, found.1, c.loop-y-test.false)) he

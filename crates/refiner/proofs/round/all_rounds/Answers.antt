@@ -22,8 +22,8 @@ loop-x-init g c =
     λ y hy. c.requires.ready.scans_small y 0 (omega (arith, hy, c.requires.ready.one_scan)) in
     let none : scanned c.args.progress.now.scans.items E ≤ length E * 0 =
     scanned_low E c.args.progress.now.scans.items 0 (λ j hj. zero_at (target_at E j)
-    (let t = target_low E c.states-states.result j c.states-states.ensures.targets_in hj in
-    omega (arith, t, c.states-states.ensures.states))) in
+    (let t = target_low E c.args.store.now.0 j c.is_stored.ensures.targets_in hj in
+    omega (arith, t))) in
     record {
       history = (
         [],
@@ -132,8 +132,8 @@ one_round-requires-clause-room g c =
     let h = c.loop-x.invariant.history in
     let ready = c.loop-x.invariant.ready in
     let low : (j : ℕ) → j < length E → target_at E j < length system = λ j hj.
-    (let t = target_low E c.states-states.result j c.states-states.ensures.targets_in hj in
-    omega (arith, t, c.states-states.ensures.states, n, c.requires.one_shape)) in
+    (let t = target_low E c.args.store.now.0 j c.is_stored.ensures.targets_in hj in
+    omega (arith, t, n, c.requires.one_shape)) in
     let bound : scanned p.scans.items E ≤ length E * 25 =
     scans_in (g.I.Iface.node c.args.iface.now) (g.I.Iface.value c.args.iface.now) system E
     (moment_at c.args.progress.now) h.0 c.loop-x.history.rounds (moment_at p) p.scans.items
@@ -156,8 +156,8 @@ one_round-requires-clause-steps_fit g c =
     let h = c.loop-x.invariant.history in
     let ready = c.loop-x.invariant.ready in
     let low : (j : ℕ) → j < length E → target_at E j < length system = λ j hj.
-    (let t = target_low E c.states-states.result j c.states-states.ensures.targets_in hj in
-    omega (arith, t, c.states-states.ensures.states, n, c.requires.one_shape)) in
+    (let t = target_low E c.args.store.now.0 j c.is_stored.ensures.targets_in hj in
+    omega (arith, t, n, c.requires.one_shape)) in
     let bound : scanned p.scans.items E ≤ length E * 25 =
     scans_in (g.I.Iface.node c.args.iface.now) (g.I.Iface.value c.args.iface.now) system E
     (moment_at c.args.progress.now) h.0 c.loop-x.history.rounds (moment_at p) p.scans.items
@@ -181,8 +181,8 @@ overflow_add-labels g c =
     let h = c.loop-x.invariant.history in
     let ready = c.loop-x.invariant.ready in
     let low : (j : ℕ) → j < length E → target_at E j < length system = λ j hj.
-    (let t = target_low E c.states-states.result j c.states-states.ensures.targets_in hj in
-    omega (arith, t, c.states-states.ensures.states, n, c.requires.one_shape)) in
+    (let t = target_low E c.args.store.now.0 j c.is_stored.ensures.targets_in hj in
+    omega (arith, t, n, c.requires.one_shape)) in
     let bound : scanned p.scans.items E ≤ length E * 25 =
     scans_in (g.I.Iface.node c.args.iface.now) (g.I.Iface.value c.args.iface.now) system E
     (moment_at c.args.progress.now) h.0 c.loop-x.history.rounds (moment_at p) p.scans.items
@@ -219,8 +219,8 @@ loop-x-preserved g c =
     c.in-Some.ensures.half.1 c.in_ok-numbers.ensures.splitter c.in_ok-numbers.ensures.left in
     let next = scanned_next E p.blocks c.in_ok-numbers.numbers.splitter p.scans.items after.scans.items
     (λ j hj. c.in_ok-numbers.ensures.scans (target_at E j)
-    (let t = target_low E c.states-states.result j c.states-states.ensures.targets_in hj in
-    omega (arith, t, c.states-states.ensures.states))) in
+    (let t = target_low E c.args.store.now.0 j c.is_stored.ensures.targets_in hj in
+    omega (arith, t))) in
     record {
       history = (
         h.0 ++ moment_at after ∷ [],

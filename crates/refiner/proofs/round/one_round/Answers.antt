@@ -59,8 +59,7 @@ update_cells-requires-clause-few g c =
       as_many c.args.store.now.1 c.args.progress.now.blocks c.block_of-splitter.result
           c.edges_within.new.found.items c.in_ok-edges_within.ensures,
       few_into c.args.store.now.1 c.args.progress.now.blocks c.block_of-splitter.result,
-      c.len-edges.ensures.edges,
-      c.len-edges.ensures.few,
+      c.is_stored.ensures.few,
     )
 
 pub update_cells-requires-clause-room : goal.update_cells-requires-clause-room
@@ -71,8 +70,7 @@ update_cells-requires-clause-room g c =
       as_many c.args.store.now.1 c.args.progress.now.blocks c.block_of-splitter.result
           c.edges_within.new.found.items c.in_ok-edges_within.ensures,
       few_into c.args.store.now.1 c.args.progress.now.blocks c.block_of-splitter.result,
-      c.len-edges.ensures.edges,
-      c.len-edges.ensures.few,
+      c.is_stored.ensures.few,
       c.requires.room,
     )
 
@@ -251,8 +249,7 @@ returns-clause-ready g c =
         in_coarse = λ x hx.
             omega (
               arith,
-              c.blocks-few.ensures.in_range x (omega (arith, coarse)),
-              c.blocks-few.ensures.blocks,
+              c.is_laid_out-2.ensures.in_range x (omega (arith, coarse)),
             );
         one_number =
             ap length c.in_ok-push.ensures.items
@@ -273,8 +270,7 @@ returns-clause-ready g c =
           (numbers_small_next numbers k c.args.number was.numbers_small);
       few = omega (
         arith,
-        c.blocks-few.ensures.few,
-        c.blocks-few.ensures.blocks,
+        c.is_laid_out-2.ensures.few_blocks,
         coarse,
         states,
       );
@@ -321,8 +317,8 @@ returns-clause-cells g c =
     (λ x. block_at c.take_out.new.coarse) c.update_cells.new.cells.of.items
     c.update_cells.new.cells.weights.items
     (λ e he. sym (c.take_out.ensures.out (target_at E e)
-    (let t = target_low E c.states-states.result e c.states-states.ensures.targets_in he in
-    omega (arith, t, c.states-states.ensures.states, c.requires.ready.states))))
+    (let t = target_low E c.args.store.now.0 e c.is_stored.ensures.targets_in he in
+    omega (arith, t, c.requires.ready.states))))
     c.in_ok-update_cells.ensures.cells
 
 pub returns-clause-few_more : goal.returns-clause-few_more

@@ -17,7 +17,7 @@ returns-in-Some c = λ all void told.
     (cut_apart c.args.values.now all void p c.mark_moved.new.blocks c.split_marked.new.self c.args.b
     c.args.moved.now told c.mark_moved.ensures.blocks c.mark_moved.ensures.all
     c.mark_moved.ensures.only
-    (λ x hx. omega (arith, c.blocks-live.ensures.in_range x hx, c.blocks-live.ensures.blocks))
+    (λ x hx. c.is_laid_out.ensures.in_range x hx)
     c.requires.live c.split_marked.ensures.states c.in-Some.ensures.split c.in-Some.new
     c.in-Some.ensures.number (c.in-Some.ensures.mixed.0 refl) c.split_by_value.new.blocks parts
     c.in_ok-split_by_value.ensures)
@@ -28,7 +28,7 @@ returns c = λ all void told.
     c.split_marked.new.self c.args.b
     c.args.moved.now told c.mark_moved.ensures.blocks c.mark_moved.ensures.all
     c.mark_moved.ensures.only
-    (λ x hx. omega (arith, c.blocks-live.ensures.in_range x hx, c.blocks-live.ensures.blocks))
+    (λ x hx. c.is_laid_out.ensures.in_range x hx)
     c.requires.live c.split_marked.ensures.states c.requires.some
     (λ m. (let e = c.in_default.ensures.mixed.1 m in cc)) c.in_default.ensures.same
     c.split_by_value-2.new.blocks c.split_by_value-2.new.parts.items c.in_ok-split_by_value-2.ensures

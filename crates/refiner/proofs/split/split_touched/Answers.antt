@@ -57,7 +57,7 @@ members-requires c =
     let r = told0.in_range from m here in
     let s = subst (λ (n : Moved). (n.state < states_of p) × (n.block ≡ block_at p n.state))
     (sym c.index.ensures) (r, b) in
-    omega (arith, c.blocks-live.ensures.in_range m.state s.0, s.1, c.blocks-live.ensures.blocks)) in
+    omega (arith, c.is_laid_out.ensures.in_range m.state s.0, s.1)) in
     omega (arith, live, cut0.grown)
 
 pub split_block-requires : goal.split_block-requires
@@ -97,7 +97,7 @@ split_block-requires c =
     let r = told0.in_range from m here in
     let s = subst (λ (n : Moved). (n.state < states_of p) × (n.block ≡ block_at p n.state))
     (sym c.index.ensures) (r, b) in
-    omega (arith, c.blocks-live.ensures.in_range m.state s.0, s.1, c.blocks-live.ensures.blocks)) in
+    omega (arith, c.is_laid_out.ensures.in_range m.state s.0, s.1)) in
     let run = take (to - from) (drop from sorted) in
     let some : 0 < length run =
     omega (
@@ -160,7 +160,7 @@ loop-from-preserved-then-members-lt2 c =
     let r = told0.in_range from m here in
     let s = subst (λ (n : Moved). (n.state < states_of p) × (n.block ≡ block_at p n.state))
     (sym c.index.ensures) (r, b) in
-    omega (arith, c.blocks-live.ensures.in_range m.state s.0, s.1, c.blocks-live.ensures.blocks)) in
+    omega (arith, c.is_laid_out.ensures.in_range m.state s.0, s.1)) in
     record {
       in_range = within;
       rounds = c.loop-from.invariant.rounds;
@@ -223,7 +223,7 @@ loop-from-preserved c =
     let r = told0.in_range from m here in
     let s = subst (λ (n : Moved). (n.state < states_of p) × (n.block ≡ block_at p n.state))
     (sym c.index.ensures) (r, b) in
-    omega (arith, c.blocks-live.ensures.in_range m.state s.0, s.1, c.blocks-live.ensures.blocks)) in
+    omega (arith, c.is_laid_out.ensures.in_range m.state s.0, s.1)) in
     record {
       in_range = within;
       rounds = c.loop-from.invariant.rounds;
@@ -293,7 +293,7 @@ loop-from-preserved-in_ok-add_split c =
     let r = told0.in_range from m here in
     let s = subst (λ (n : Moved). (n.state < states_of p) × (n.block ≡ block_at p n.state))
     (sym c.index.ensures) (r, b) in
-    omega (arith, c.blocks-live.ensures.in_range m.state s.0, s.1, c.blocks-live.ensures.blocks)) in
+    omega (arith, c.is_laid_out.ensures.in_range m.state s.0, s.1)) in
     let s : Split = record { parent = m.block; parts = c.split_block.new.parts.items } in
     record {
       in_range = within;

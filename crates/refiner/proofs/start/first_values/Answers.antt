@@ -36,7 +36,7 @@ loop-x-init g c = record {
   each = λ k a h at. absurd (omega arith);
   whole = rw c.new-weights.ensures.items
       (whole_none (g.I.Iface.toward c.args.iface.now) c.args.shapes.now c.args.store.now.1);
-  rise = omega (arith, c.len-edges.ensures.none);
+  rise = omega (arith, c.is_stored.ensures.none);
 }
 
 pub loop-x-preserved : goal.loop-x-preserved

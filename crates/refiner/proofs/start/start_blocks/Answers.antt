@@ -24,7 +24,7 @@ starts_of-requires-clause-split g c =
     c.args.blocks.now c.split_all.new.blocks c.split_all-2.new.blocks
     c.in_ok-_by_node._by_node.splits c.in_ok-_by_value._by_value.splits
     (c.requires.in_blocks ∙ sym c.requires.one_shape ∙ sym n) c.requires.one_block
-    (λ x hx. omega (arith, c.blocks-one.ensures.in_range x hx, c.blocks-one.ensures.blocks))
+    (λ x hx. c.is_laid_out.ensures.in_range x hx)
     (λ x a at. ap (λ vs. value_at vs x) (c.as_slice.ensures.value ∙ c.in_ok-nodes.ensures)
     ∙ node_at (g.I.Iface.node c.args.iface.now) 0 c.args.shapes.now c.args.store.now.1 x a at)
     c.in_ok-_by_node.ensures c.in_ok-_by_value.ensures

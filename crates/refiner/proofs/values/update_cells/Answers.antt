@@ -29,7 +29,7 @@ loop-from-init g c =
     value_at all y ≡ value_at voids y = λ y hy away.
     untouched_alike value shapes E p q s c.args.c y
     (omega (arith, hy, c.requires.in_blocks, c.requires.one_shape)) away in
-    let rises = sources_rise E c.len-edges.ensures.ascending in
+    let rises = sources_rise E c.is_stored.ensures.ascending in
     record {
       in_range = omega arith;
       one_value = c.requires.one_value;
@@ -61,7 +61,7 @@ update_one-requires-clause-cells g c =
     value_at all y ≡ value_at voids y = λ y hy away.
     untouched_alike value shapes E p q s c.args.c y
     (omega (arith, hy, c.requires.in_blocks, c.requires.one_shape)) away in
-    let rises = sources_rise E c.len-edges.ensures.ascending in
+    let rises = sources_rise E c.is_stored.ensures.ascending in
     let inv = c.loop-from.invariant.updating in
     cells_here toward shapes E p q s edges c.requires.edges all voids untouched rises
     c.loop-from.from inv.0 c.loop-from.cells.of.items
@@ -88,7 +88,7 @@ update_one-requires-clause-group g c =
     value_at all y ≡ value_at voids y = λ y hy away.
     untouched_alike value shapes E p q s c.args.c y
     (omega (arith, hy, c.requires.in_blocks, c.requires.one_shape)) away in
-    let rises = sources_rise E c.len-edges.ensures.ascending in
+    let rises = sources_rise E c.is_stored.ensures.ascending in
     let inv = c.loop-from.invariant.updating in
     group_is toward shapes E p q s edges c.requires.edges all voids untouched rises
     c.loop-from.from inv.0 c.loop-from.cells.of.items
@@ -145,7 +145,7 @@ loop-from-preserved g c =
     value_at all y ≡ value_at voids y = λ y hy away.
     untouched_alike value shapes E p q s c.args.c y
     (omega (arith, hy, c.requires.in_blocks, c.requires.one_shape)) away in
-    let rises = sources_rise E c.len-edges.ensures.ascending in
+    let rises = sources_rise E c.is_stored.ensures.ascending in
     let inv = c.loop-from.invariant.updating in
     let x = c.source-x.result in
     let hx : x < length shapes =
@@ -216,7 +216,7 @@ loop-from-preserved-in_ok-push g c =
     value_at all y ≡ value_at voids y = λ y hy away.
     untouched_alike value shapes E p q s c.args.c y
     (omega (arith, hy, c.requires.in_blocks, c.requires.one_shape)) away in
-    let rises = sources_rise E c.len-edges.ensures.ascending in
+    let rises = sources_rise E c.is_stored.ensures.ascending in
     let inv = c.loop-from.invariant.updating in
     let x = c.source-x.result in
     let hx : x < length shapes =
@@ -297,7 +297,7 @@ returns-clause-cells g c =
     value_at all y ≡ value_at voids y = λ y hy away.
     untouched_alike value shapes E p q s c.args.c y
     (omega (arith, hy, c.requires.in_blocks, c.requires.one_shape)) away in
-    let rises = sources_rise E c.len-edges.ensures.ascending in
+    let rises = sources_rise E c.is_stored.ensures.ascending in
     let inv = c.loop-from.invariant.updating in
     cells_all toward shapes E p q s edges c.requires.edges all voids untouched rises
     c.loop-from.from inv.0 c.loop-from.cells.of.items
@@ -321,7 +321,7 @@ returns-clause-moved g c =
     value_at all y ≡ value_at voids y = λ y hy away.
     untouched_alike value shapes E p q s c.args.c y
     (omega (arith, hy, c.requires.in_blocks, c.requires.one_shape)) away in
-    let rises = sources_rise E c.len-edges.ensures.ascending in
+    let rises = sources_rise E c.is_stored.ensures.ascending in
     let inv = c.loop-from.invariant.updating in
     moved_all toward shapes E p q s edges c.requires.edges all voids untouched rises
     c.loop-from.from inv.0 c.loop-from.cells.of.items

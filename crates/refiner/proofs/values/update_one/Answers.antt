@@ -24,14 +24,14 @@ update-requires-clause-cell g c =
     let first = get_or group 0 0 in
     let first_is = c.requires.group.each 0 0 c.requires.group.some in
     let low : (e : ℕ) → e < length E → target_at E e < states_of p = λ e he.
-    (let t = target_low E c.states-states.result e c.states-states.ensures.targets_in he in
-    omega (arith, t, c.states-states.ensures.states, c.requires.in_blocks)) in
+    (let t = target_low E c.args.store.now.0 e c.is_stored.ensures.targets_in he in
+    omega (arith, t, c.requires.in_blocks)) in
     let k : c.index.result.now ≡ get_or cells first 0 =
     get_or_read cells first c.index.result.now
     (omega (arith, first_is.0, c.requires.cells.one_each)) c.index.ensures 0 in
     let hx : x < length c.args.shapes.now =
-    (let t = source_low E c.states-states.result first c.states-states.ensures.sources_in first_is.0 in
-    omega (arith, t, first_is.1, c.requires.one_shape, c.states-states.ensures.states)) in
+    (let t = source_low E c.args.store.now.0 first c.is_stored.ensures.sources_in first_is.0 in
+    omega (arith, t, first_is.1, c.requires.one_shape)) in
     let here = state_at c.args.shapes.now x hx in (
       here.0,
       labels_from E x,
@@ -70,14 +70,14 @@ returns-clause-cells g c =
     let first = get_or group 0 0 in
     let first_is = c.requires.group.each 0 0 c.requires.group.some in
     let low : (e : ℕ) → e < length E → target_at E e < states_of p = λ e he.
-    (let t = target_low E c.states-states.result e c.states-states.ensures.targets_in he in
-    omega (arith, t, c.states-states.ensures.states, c.requires.in_blocks)) in
+    (let t = target_low E c.args.store.now.0 e c.is_stored.ensures.targets_in he in
+    omega (arith, t, c.requires.in_blocks)) in
     let k : c.index.result.now ≡ get_or cells first 0 =
     get_or_read cells first c.index.result.now
     (omega (arith, first_is.0, c.requires.cells.one_each)) c.index.ensures 0 in
     let hx : x < length c.args.shapes.now =
-    (let t = source_low E c.states-states.result first c.states-states.ensures.sources_in first_is.0 in
-    omega (arith, t, first_is.1, c.requires.one_shape, c.states-states.ensures.states)) in
+    (let t = source_low E c.args.store.now.0 first c.is_stored.ensures.sources_in first_is.0 in
+    omega (arith, t, first_is.1, c.requires.one_shape)) in
     let here = state_at c.args.shapes.now x hx in
     let updated = c.in_ok-part.ensures.updated here.0 (labels_from E x)
     (map (trit_in p q c.args.s c.args.c) (targets_from E x))
@@ -113,8 +113,8 @@ returns-clause-three g c = λ shape at.
     let first = get_or group 0 0 in
     let first_is = c.requires.group.each 0 0 c.requires.group.some in
     let low : (e : ℕ) → e < length E → target_at E e < states_of p = λ e he.
-    (let t = target_low E c.states-states.result e c.states-states.ensures.targets_in he in
-    omega (arith, t, c.states-states.ensures.states, c.requires.in_blocks)) in
+    (let t = target_low E c.args.store.now.0 e c.is_stored.ensures.targets_in he in
+    omega (arith, t, c.requires.in_blocks)) in
     let k : c.index.result.now ≡ get_or cells first 0 =
     get_or_read cells first c.index.result.now
     (omega (arith, first_is.0, c.requires.cells.one_each)) c.index.ensures 0 in
@@ -140,8 +140,8 @@ returns-clause-void g c = λ shape at.
     let first = get_or group 0 0 in
     let first_is = c.requires.group.each 0 0 c.requires.group.some in
     let low : (e : ℕ) → e < length E → target_at E e < states_of p = λ e he.
-    (let t = target_low E c.states-states.result e c.states-states.ensures.targets_in he in
-    omega (arith, t, c.states-states.ensures.states, c.requires.in_blocks)) in
+    (let t = target_low E c.args.store.now.0 e c.is_stored.ensures.targets_in he in
+    omega (arith, t, c.requires.in_blocks)) in
     let k : c.index.result.now ≡ get_or cells first 0 =
     get_or_read cells first c.index.result.now
     (omega (arith, first_is.0, c.requires.cells.one_each)) c.index.ensures 0 in
