@@ -1,7 +1,7 @@
 -- Rounds, splits and parts in three arrays, one after another.
 --     split_of, round_of      what a row of an array stands for
 --     LiesWithin              a range of an array
---     IsFlat                  the ranges of all rows are ranges of the arrays below
+--     AreOfParts, IsFlat      the ranges of all rows are ranges of the arrays below
 use Rattle.std.specs.Prelude.{◌≤◌, ℕ, List, length, map, slice_range, All}
 use Rattle.refiner.specs.declared.parts.Part.{Part}
 use Rattle.refiner.specs.declared.rows.SplitRow.{SplitRow}
@@ -25,7 +25,8 @@ LiesWithin len from to = (from ≤ to) × (to ≤ len)
 abbrev pub AreOfParts : List SplitRow → List Part → Type 0
 AreOfParts splits parts = All (λ (s : SplitRow). LiesWithin (length parts) s.from s.to) splits
 
--- the ranges of the rounds and of the splits are there, and those of the rounds end by a place
+-- the range of each round is one of the splits, that of each split one of the parts, and the splits
+-- of the round that has not ended begin at a place of theirs
 pub record IsFlat
     (ended : ℕ) (rounds : List RoundRow) (splits : List SplitRow) (parts : List Part)
     : Type 0 where
