@@ -83,6 +83,18 @@ impl<A: Copy> EdgeStore<A> {
         })
     }
 
+    /// What holds of every store. Nothing is read or done.
+    pub fn is_stored(&self)
+        ensures few { length self.now.1 < 2 ^ 26 }
+        ensures ascending { AllPairs (λ a b. a ≤ b) (sources_of self.now.1) }
+        ensures sources_in { All (λ s. s < self.now.0) (sources_of self.now.1) }
+        ensures targets_in { All (λ t. t < self.now.0) (targets_of self.now.1) }
+        ensures none { first_of self.now.1 0 ≡ 0 }
+        ensures all { first_of self.now.1 self.now.0 ≡ length self.now.1 }
+    {
+        let _count = &self.count;
+    }
+
     /// How many edges there are.
     pub fn len(&self) -> u32
         ensures edges { result ≡ length self.now.1 }

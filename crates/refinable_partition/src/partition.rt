@@ -1,6 +1,6 @@
 //! The type: its arrays, what callers see of them, and its calls.
 
-ghost use Rattle.std.specs.Prelude.{◌≡◌, ◌≢◌, ◌<◌, ◌≤◌, ◌^◌, ℕ, true, false, length, replicate, IfOk, IfSome, IfNone, IsSome, ◌↔◌};
+ghost use Rattle.std.specs.Prelude.{◌≡◌, ◌≢◌, ◌<◌, ◌≤◌, ◌^◌, ℕ, true, false, length, replicate, Contains, IfOk, IfSome, IfNone, IsSome, ◌↔◌};
 ghost use Rattle.refinable_partition.specs.Blocks.{block_at, mark_at, states_of, size_in, IsMembers, IsMixed, IsSplitOff, IsSameBlocks, IsCleared};
 
 use crate::arrays::{counted_up, is_mixed, renumber};
@@ -68,6 +68,16 @@ impl Partition {
             marks,
             count: n.min(1),
         })
+    }
+
+    /// What holds of every partition. Nothing is read or done.
+    pub fn is_laid_out(&self)
+        ensures few { states_of self.now < 2 ^ 26 }
+        ensures few_blocks { self.now.count ≤ states_of self.now }
+        ensures in_range { (x : ℕ) → x < states_of self.now → block_at self.now x < self.now.count }
+        ensures none_empty { (b : ℕ) → b < self.now.count → Contains self.now.block b }
+    {
+        let _count = &self.count;
     }
 
     /// How many states there are.

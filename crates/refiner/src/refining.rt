@@ -1,14 +1,16 @@
 //! The public call.
 
-ghost use Rattle.std.specs.Prelude.{◌≡◌, ◌+◌, ◌<◌, ◌≤◌, ◌^◌, ℕ, List, length, slice_index, Contains, IfOk};
-ghost use Rattle.refinable_partition.specs.Blocks.{block_at, states_of};
+ghost use Rattle.std.specs.Prelude.{◌≡◌, ◌+◌, ◌*◌, ◌<◌, ◌≤◌, ◌^◌, ℕ, List, length, slice_index, IfOk};
 ghost use Rattle.sorted_systems.specs.Systems.{IsSystem, IsGreatestStable, system_from};
+ghost use Rattle.refiner.specs.Cells.{scanned};
 ghost use Rattle.refiner.specs.History.{Moment, IsLegal, AreHalves};
 
-use crate::advancing::all_rounds;
-use crate::history::Refined;
+use crate::cells::Cells;
 use crate::progress::Progress;
-use crate::starting::{first_values, start_blocks};
+use crate::refined::Refined;
+use crate::round::all_rounds;
+use crate::splitter::list_blocks;
+use crate::start::{edge_sources, first_values, start_blocks};
 use edge_store::EdgeStore;
 use iface::Iface;
 use outside::Steps;
@@ -27,19 +29,6 @@ fn block_list(alloc: Global, blocks: &Partition) -> Result<Vec<u32>, AllocError>
     Ok(found)
 }
 
-/// How many blocks there are. It looks at the members of each, and so sees that none is empty.
-fn count_blocks(blocks: &Partition) -> u32
-    ensures count { result ≡ blocks.now.count }
-    ensures in_range { (x : ℕ) → x < states_of blocks.now → block_at blocks.now x < result }
-    ensures none_empty { (b : ℕ) → b < result → Contains blocks.now.block b }
-{
-    let count = blocks.blocks();
-    for b in 0..count {
-        let _members = blocks.members(b);
-    }
-    count
-}
-
 /// The greatest stable labelling of the states with these shapes and edges, with a legal history of
 /// rounds whose splitters have at most half of the members of their coarse blocks.
 ///
@@ -48,11 +37,11 @@ fn count_blocks(blocks: &Partition) -> u32
 /// memory.
 ///
 /// Source: the algorithm of R. Paige and R. E. Tarjan, "Three partition refinement algorithms"
-/// (1987), as T. Wißmann, U. Dorsch, S. Milius and L. Schröder have it for functors, "Efficient and
-/// modular coalgebraic partition refinement" (2020).
+/// (1987), as T. Wißmann, U. Dorsch, S. Milius and L. Schröder have it for functors, "Efficient
+/// and modular coalgebraic partition refinement" (2020).
 pub fn refine<I: Iface, L: Ledger>(
-    iface: &I,
     alloc: Global,
+    iface: &I,
     shapes: &[I::Shape],
     store: &EdgeStore<I::Label>,
     steps: &mut Steps<L>,
@@ -63,37 +52,55 @@ pub fn refine<I: Iface, L: Ledger>(
         (system_from 0 shapes.now store.now.1) }
     requires steps_fit { steps.old ≤ 2 ^ 61 }
     ensures greatest { IfOk result (λ r. IsGreatestStable (I.agree iface.now)
-        (system_from 0 shapes.now store.now.1) r.block_of.items) }
+        (system_from 0 shapes.now store.now.1) r.block_of) }
     ensures legal { IfOk result (λ r. (first : Moment) × (later : List Moment) ×
         IsLegal (I.node iface.now) (I.value iface.now) (system_from 0 shapes.now store.now.1)
-        r first later × AreHalves first later r.rounds.items) }
+        r first later × AreHalves first later r.rounds) }
     ensures scans { IfOk result (λ r. (y : ℕ) → y < store.now.0 →
-        2 ^ slice_index r.scans.items y ≤ store.now.0) }
+        2 ^ slice_index r.scans y ≤ store.now.0) }
     ensures rise { IfOk result (λ r. steps.new ≡ steps.old + r.labels) }
-    ensures labels { IfOk result (λ r. length store.now.1 ≤ r.labels) }
+    ensures labels { IfOk result (λ r.
+        r.labels ≡ length store.now.1 + scanned r.scans store.now.1) }
+    ensures few_labels { IfOk result (λ r. (k : ℕ) → store.now.0 < 2 ^ (k + 1) →
+        r.labels ≤ length store.now.1 * (1 + k)) }
     ensures grows { steps.old ≤ steps.new }
 {
     let n = store.states();
-    // There are fewer than 2^26 edges.
-    let _edges = store.len();
-    let (values, first_labels) = first_values(iface, alloc, shapes, store, steps)?;
+    let edges = store.len();
+    let (mut values, weights) = first_values(alloc, iface, shapes, store, steps)?;
+    let mut cells = Cells {
+        of: edge_sources(alloc, store)?,
+        weights,
+    };
     let mut progress = Progress::begun(alloc, n)?;
     let start = start_blocks(
-        iface,
         alloc,
+        iface,
         shapes,
         store,
         &mut progress.blocks,
         values.as_slice(),
     )?;
-    let (rounds, later_labels) = all_rounds(iface, alloc, shapes, store, &mut progress, steps)?;
+    list_blocks(&progress.blocks, &mut progress.waiting)?;
+    let (history, later_labels) = all_rounds(
+        alloc,
+        iface,
+        shapes,
+        store,
+        &mut progress,
+        &mut values,
+        &mut cells,
+        steps,
+    )?;
     let Progress { blocks, scans, .. } = progress;
+    blocks.is_laid_out();
+    let count = blocks.blocks();
     Ok(Refined {
         block_of: block_list(alloc, &blocks)?,
-        blocks: count_blocks(&blocks),
+        blocks: count,
         start,
-        rounds,
+        history,
         scans,
-        labels: first_labels + later_labels,
+        labels: edges as u64 + later_labels,
     })
 }

@@ -1,0 +1,326 @@
+use Rattle.std.proofs.Common.{◌≡◌, ◌+◌, ◌*◌, ◌<◌, ◌==◌, ◌∙◌, ℕ, List, length, get_or, set, ap, sym, refl, subst, inl, inr, arith}
+use Rattle.std.proofs.lemmas.List.{get_or_read, length_push, length-set}
+use Rattle.std.proofs.lemmas.Bool.{cases_eq}
+use Rattle.modalities.specs.declared.three.Three.{Three}
+use Rattle.refinable_partition.specs.Blocks.{block_at, states_of}
+use Rattle.sorted_systems.specs.Systems.{system_from}
+use Rattle.refiner.specs.declared.parts.Part.{Part}
+use Rattle.refiner.specs.Recorded.{Split}
+use Rattle.refiner.specs.Cells.{round_values, round_voids, target_at, class_after, AreEdgesWithin}
+use Rattle.refiner.specs.Grouping.{AreCut}
+use Rattle.refiner.specs.Making.{trit_in}
+use Rattle.refiner.specs.Touched.{AreMoved, HaveOneVoid}
+use Rattle.refiner.specs.Waiting.{AddsSplits}
+use Rattle.refiner.proofs.Apart.{in_blocks_after}
+use Rattle.refiner.proofs.CellsStep.{cells_agree}
+use Rattle.refiner.proofs.Counted.{as_many, few_into}
+use Rattle.refiner.proofs.OneSource.{target_low}
+use Rattle.refiner.proofs.Ready.{numbers_apart_next, numbers_small_next, scans_small_next}
+use Rattle.refiner.proofs.States.{length-system_from}
+use Rattle.refiner.proofs.RoundMade.{round_made, below_from_all}
+use Rattle.refiner.proofs.Voids.{one_void, values_are}
+use Rattle.refiner.proofs.Waiting.{waiting_after}
+use Rattle.refiner.proofs.round.one_round.Goals as goal
+
+pub update_cells-requires-clause-within : goal.update_cells-requires-clause-within
+update_cells-requires-clause-within g c =
+    let E = c.args.store.now.1 in
+    let p = c.args.progress.now.blocks in
+    let q = c.args.progress.now.coarse in
+    let numbers = c.args.progress.now.numbers.items in
+    let ready = c.requires.ready.numbered in
+    let s = c.block_of-splitter.result in
+    let k = c.block_of-c.result in
+    let value = g.I.Iface.value c.args.iface.now in
+    let system = system_from 0 c.args.shapes.now E in
+    let all : List Three = round_values value system (trit_in p q s k) in
+    let voids : List Three = round_voids value system (trit_in p q s k) in
+    let n = length-system_from 0 c.args.shapes.now E in
+    let n_is : states_of p ≡ length system =
+    c.requires.ready.states ∙ sym c.requires.one_shape ∙ sym n in
+    let torn = c.requires.torn.1 in
+    let within : (t : ℕ) → t < states_of p → block_at p t ≡ s → block_at q t ≡ k = λ t ht e.
+    c.requires.nested t c.args.x ht torn.0 (e ∙ c.block_of-splitter.ensures.block)
+    ∙ sym c.block_of-c.ensures.block in
+    let hc : k < length numbers =
+    omega (arith, ready.one_number, c.block_of-c.ensures.in_range) in
+    within
+
+pub update_cells-requires-clause-edges : goal.update_cells-requires-clause-edges
+update_cells-requires-clause-edges g c =
+    subst (λ es. AreEdgesWithin c.args.store.now.1 c.args.progress.now.blocks
+    c.block_of-splitter.result es) (sym c.as_slice.ensures.value) c.in_ok-edges_within.ensures
+
+pub update_cells-requires-clause-few : goal.update_cells-requires-clause-few
+update_cells-requires-clause-few g c =
+    omega (
+      arith,
+      ap length c.as_slice.ensures.value,
+      as_many c.args.store.now.1 c.args.progress.now.blocks c.block_of-splitter.result
+          c.edges_within.new.found.items c.in_ok-edges_within.ensures,
+      few_into c.args.store.now.1 c.args.progress.now.blocks c.block_of-splitter.result,
+      c.is_stored.ensures.few,
+    )
+
+pub update_cells-requires-clause-room : goal.update_cells-requires-clause-room
+update_cells-requires-clause-room g c =
+    omega (
+      arith,
+      ap length c.as_slice.ensures.value,
+      as_many c.args.store.now.1 c.args.progress.now.blocks c.block_of-splitter.result
+          c.edges_within.new.found.items c.in_ok-edges_within.ensures,
+      few_into c.args.store.now.1 c.args.progress.now.blocks c.block_of-splitter.result,
+      c.is_stored.ensures.few,
+      c.requires.room,
+    )
+
+pub split_touched-requires-clause-told : goal.split_touched-requires-clause-told
+split_touched-requires-clause-told g c =
+    let E = c.args.store.now.1 in
+    let p = c.args.progress.now.blocks in
+    let q = c.args.progress.now.coarse in
+    let numbers = c.args.progress.now.numbers.items in
+    let ready = c.requires.ready.numbered in
+    let s = c.block_of-splitter.result in
+    let k = c.block_of-c.result in
+    let value = g.I.Iface.value c.args.iface.now in
+    let system = system_from 0 c.args.shapes.now E in
+    let all : List Three = round_values value system (trit_in p q s k) in
+    let voids : List Three = round_voids value system (trit_in p q s k) in
+    let n = length-system_from 0 c.args.shapes.now E in
+    let n_is : states_of p ≡ length system =
+    c.requires.ready.states ∙ sym c.requires.one_shape ∙ sym n in
+    let torn = c.requires.torn.1 in
+    let within : (t : ℕ) → t < states_of p → block_at p t ≡ s → block_at q t ≡ k = λ t ht e.
+    c.requires.nested t c.args.x ht torn.0 (e ∙ c.block_of-splitter.ensures.block)
+    ∙ sym c.block_of-c.ensures.block in
+    let hc : k < length numbers =
+    omega (arith, ready.one_number, c.block_of-c.ensures.in_range) in
+    let moved : AreMoved c.as_slice-2.result.now all voids p c.update_cells.new.moved.items =
+    subst (λ (vs : List Three). AreMoved vs all voids p c.update_cells.new.moved.items)
+    (sym c.as_slice-2.ensures.value) c.in_ok-update_cells.ensures.moved in
+    let one : HaveOneVoid voids p = one_void (g.I.Iface.node c.args.iface.now)
+    (g.I.Iface.kin c.args.iface.now) (g.I.Iface.fits c.args.iface.now) value
+    (g.I.Iface.agree c.args.iface.now) (g.met.I.Iface.laws c.args.iface.now) system
+    c.requires.system p q numbers ready n_is c.requires.agreeing s k hc within in
+    (all, voids, moved, one)
+
+pub split_touched-requires-clause-one_each : goal.split_touched-requires-clause-one_each
+split_touched-requires-clause-one_each g c =
+    ap length c.as_slice-2.ensures.value ∙ c.in_ok-update_cells.ensures.one_value
+    ∙ sym c.requires.ready.states
+
+pub add_waiting-requires : goal.add_waiting-requires
+add_waiting-requires g c =
+    let E = c.args.store.now.1 in
+    let p = c.args.progress.now.blocks in
+    let q = c.args.progress.now.coarse in
+    let numbers = c.args.progress.now.numbers.items in
+    let ready = c.requires.ready.numbered in
+    let s = c.block_of-splitter.result in
+    let k = c.block_of-c.result in
+    let value = g.I.Iface.value c.args.iface.now in
+    let system = system_from 0 c.args.shapes.now E in
+    let all : List Three = round_values value system (trit_in p q s k) in
+    let voids : List Three = round_voids value system (trit_in p q s k) in
+    let n = length-system_from 0 c.args.shapes.now E in
+    let n_is : states_of p ≡ length system =
+    c.requires.ready.states ∙ sym c.requires.one_shape ∙ sym n in
+    let torn = c.requires.torn.1 in
+    let within : (t : ℕ) → t < states_of p → block_at p t ≡ s → block_at q t ≡ k = λ t ht e.
+    c.requires.nested t c.args.x ht torn.0 (e ∙ c.block_of-splitter.ensures.block)
+    ∙ sym c.block_of-c.ensures.block in
+    let hc : k < length numbers =
+    omega (arith, ready.one_number, c.block_of-c.ensures.in_range) in
+    let moved : AreMoved c.as_slice-2.result.now all voids p c.update_cells.new.moved.items =
+    subst (λ (vs : List Three). AreMoved vs all voids p c.update_cells.new.moved.items)
+    (sym c.as_slice-2.ensures.value) c.in_ok-update_cells.ensures.moved in
+    let one : HaveOneVoid voids p = one_void (g.I.Iface.node c.args.iface.now)
+    (g.I.Iface.kin c.args.iface.now) (g.I.Iface.fits c.args.iface.now) value
+    (g.I.Iface.agree c.args.iface.now) (g.met.I.Iface.laws c.args.iface.now) system
+    c.requires.system p q numbers ready n_is c.requires.agreeing s k hc within in
+    let cut : AreCut all p.count p c.split_touched.new.blocks c.split_touched.new.history.splits =
+    c.in_ok-split_touched.ensures.cut all voids moved one in
+    rw c.open_splits-splits.ensures
+    (record {
+      live = λ i d h j e l. (
+          let by_ = cut.cuts i d h in
+          let s : Split = get_or c.split_touched.new.history.splits i d in
+          let part : Part = get_or s.parts j e in
+          elim (cases_eq part.block s.parent) [
+            | inl same ↦ omega (arith, same, by_.live, cut.grown)
+            | inr other ↦ (let f = by_.others_new j e l other in f.1)
+          ]);
+    })
+
+pub returns-clause-round : goal.returns-clause-round
+returns-clause-round g c =
+    let E = c.args.store.now.1 in
+    let p = c.args.progress.now.blocks in
+    let q = c.args.progress.now.coarse in
+    let numbers = c.args.progress.now.numbers.items in
+    let ready = c.requires.ready.numbered in
+    let s = c.block_of-splitter.result in
+    let k = c.block_of-c.result in
+    let value = g.I.Iface.value c.args.iface.now in
+    let system = system_from 0 c.args.shapes.now E in
+    let all : List Three = round_values value system (trit_in p q s k) in
+    let voids : List Three = round_voids value system (trit_in p q s k) in
+    let n = length-system_from 0 c.args.shapes.now E in
+    let n_is : states_of p ≡ length system =
+    c.requires.ready.states ∙ sym c.requires.one_shape ∙ sym n in
+    let torn = c.requires.torn.1 in
+    let within : (t : ℕ) → t < states_of p → block_at p t ≡ s → block_at q t ≡ k = λ t ht e.
+    c.requires.nested t c.args.x ht torn.0 (e ∙ c.block_of-splitter.ensures.block)
+    ∙ sym c.block_of-c.ensures.block in
+    let hc : k < length numbers =
+    omega (arith, ready.one_number, c.block_of-c.ensures.in_range) in
+    let moved : AreMoved c.as_slice-2.result.now all voids p c.update_cells.new.moved.items =
+    subst (λ (vs : List Three). AreMoved vs all voids p c.update_cells.new.moved.items)
+    (sym c.as_slice-2.ensures.value) c.in_ok-update_cells.ensures.moved in
+    let one : HaveOneVoid voids p = one_void (g.I.Iface.node c.args.iface.now)
+    (g.I.Iface.kin c.args.iface.now) (g.I.Iface.fits c.args.iface.now) value
+    (g.I.Iface.agree c.args.iface.now) (g.met.I.Iface.laws c.args.iface.now) system
+    c.requires.system p q numbers ready n_is c.requires.agreeing s k hc within in
+    let cut : AreCut all p.count p c.split_touched.new.blocks c.split_touched.new.history.splits =
+    c.in_ok-split_touched.ensures.cut all voids moved one in
+    let was : c.index-coarse.result.now ≡ get_or numbers k 0 =
+    get_or_read numbers k c.index-coarse.result.now hc c.index-coarse.ensures 0 in
+    round_made (g.I.Iface.node c.args.iface.now) value system
+    (λ x a at. below_from_all _ _ (c.requires.system.in_range x a at))
+    p q numbers ready n_is
+    c.requires.nested c.args.number k c.args.x c.requires.torn.0
+    (record {
+      splitter = s;
+      coarse = c.index-coarse.result.now;
+      inner = 2 * c.args.number + 1;
+      outer = 2 * c.args.number + 2;
+      splits = c.split_touched.new.history.splits;
+    })
+    torn c.block_of-splitter.ensures.block c.block_of-c.ensures.block was refl refl
+    all (values_are value system (trit_in p q s k))
+    c.split_touched.new.blocks c.take_out.new.coarse c.push.new.self.items cut
+    c.take_out.ensures.out c.take_out.ensures.states c.in_ok-push.ensures.items
+
+pub returns-clause-ready : goal.returns-clause-ready
+returns-clause-ready g c =
+    let E = c.args.store.now.1 in
+    let p = c.args.progress.now.blocks in
+    let q = c.args.progress.now.coarse in
+    let numbers = c.args.progress.now.numbers.items in
+    let ready = c.requires.ready.numbered in
+    let s = c.block_of-splitter.result in
+    let k = c.block_of-c.result in
+    let value = g.I.Iface.value c.args.iface.now in
+    let system = system_from 0 c.args.shapes.now E in
+    let all : List Three = round_values value system (trit_in p q s k) in
+    let voids : List Three = round_voids value system (trit_in p q s k) in
+    let n = length-system_from 0 c.args.shapes.now E in
+    let n_is : states_of p ≡ length system =
+    c.requires.ready.states ∙ sym c.requires.one_shape ∙ sym n in
+    let torn = c.requires.torn.1 in
+    let within : (t : ℕ) → t < states_of p → block_at p t ≡ s → block_at q t ≡ k = λ t ht e.
+    c.requires.nested t c.args.x ht torn.0 (e ∙ c.block_of-splitter.ensures.block)
+    ∙ sym c.block_of-c.ensures.block in
+    let hc : k < length numbers =
+    omega (arith, ready.one_number, c.block_of-c.ensures.in_range) in
+    let moved : AreMoved c.as_slice-2.result.now all voids p c.update_cells.new.moved.items =
+    subst (λ (vs : List Three). AreMoved vs all voids p c.update_cells.new.moved.items)
+    (sym c.as_slice-2.ensures.value) c.in_ok-update_cells.ensures.moved in
+    let one : HaveOneVoid voids p = one_void (g.I.Iface.node c.args.iface.now)
+    (g.I.Iface.kin c.args.iface.now) (g.I.Iface.fits c.args.iface.now) value
+    (g.I.Iface.agree c.args.iface.now) (g.met.I.Iface.laws c.args.iface.now) system
+    c.requires.system p q numbers ready n_is c.requires.agreeing s k hc within in
+    let cut : AreCut all p.count p c.split_touched.new.blocks c.split_touched.new.history.splits =
+    c.in_ok-split_touched.ensures.cut all voids moved one in
+    let pr = c.args.progress.now in
+    let was = c.requires.ready in
+    let states : length c.split_touched.new.blocks.block ≡ c.args.store.now.0 =
+    cut.states ∙ was.states in
+    let coarse : length c.take_out.new.coarse.block ≡ length c.split_touched.new.blocks.block =
+    c.take_out.ensures.states ∙ ready.states ∙ sym cut.states in
+    record {
+      states = states;
+      numbered = record {
+        states = coarse;
+        in_blocks = λ x hx.
+            in_blocks_after all p c.split_touched.new.blocks
+            c.split_touched.new.history.splits cut ready.in_blocks x (omega (arith, hx, cut.states));
+        in_coarse = λ x hx.
+            omega (
+              arith,
+              c.is_laid_out-2.ensures.in_range x (omega (arith, coarse)),
+            );
+        one_number =
+            ap length c.in_ok-push.ensures.items
+            ∙ omega (
+              arith,
+              length_push (set numbers k (2 * c.args.number + 2)) (2 * c.args.number + 1),
+              length-set numbers k (2 * c.args.number + 2),
+              ready.one_number,
+              c.take_out.ensures.one_more,
+            );
+        numbers_apart =
+            rw c.in_ok-push.ensures.items
+            (numbers_apart_next numbers k c.args.number ready.numbers_apart
+            was.numbers_small hc);
+      };
+      numbers_small =
+          rw c.in_ok-push.ensures.items
+          (numbers_small_next numbers k c.args.number was.numbers_small);
+      few = omega (
+        arith,
+        c.is_laid_out-2.ensures.few_blocks,
+        coarse,
+        states,
+      );
+      unmarked = cut.unmarked;
+      coarse_unmarked = c.take_out.ensures.unmarked;
+      one_scan = c.count_scans.ensures.one_each ∙ was.one_scan;
+      scans_small =
+          scans_small_next pr.scans.items c.count_scans.new.scans.items
+          (λ z. block_at p z == s) c.args.number
+          c.count_scans.ensures.one_each
+          (λ z hz. c.count_scans.ensures.counted z (omega (arith, hz, was.one_scan, was.states)))
+          was.scans_small;
+      waiting =
+          waiting_after all p q c.split_touched.new.blocks
+          c.take_out.new.coarse s c.split_touched.new.history.splits
+          pr.waiting.items c.add_waiting.new.waiting.items c.requires.nested ready.states
+          ready.in_blocks
+          ready.in_coarse c.take_out.ensures.out c.take_out.ensures.states cut was.waiting
+          (subst (λ (ss : List Split). AddsSplits c.split_touched.new.blocks ss
+          pr.waiting.items c.add_waiting.new.waiting.items)
+          c.open_splits-splits.ensures c.in_ok-add_waiting.ensures);
+    }
+
+pub returns-clause-rise : goal.returns-clause-rise
+returns-clause-rise g c =
+    omega (arith, c.in_ok-update_cells.ensures.counted, ap length c.as_slice.ensures.value)
+
+pub returns-clause-counted : goal.returns-clause-counted
+returns-clause-counted g c =
+    let many = as_many c.args.store.now.1 c.args.progress.now.blocks c.block_of-splitter.result
+    c.edges_within.new.found.items c.in_ok-edges_within.ensures in
+    omega (arith, many)
+
+pub returns-clause-one_value : goal.returns-clause-one_value
+returns-clause-one_value g c = c.in_ok-update_cells.ensures.one_value
+
+pub returns-clause-cells : goal.returns-clause-cells
+returns-clause-cells g c =
+    let E = c.args.store.now.1 in
+    let p = c.args.progress.now.blocks in
+    let q = c.args.progress.now.coarse in
+    let s = c.block_of-splitter.result in
+    cells_agree (g.I.Iface.toward c.args.iface.now) c.args.shapes.now E (class_after p q s)
+    (λ x. block_at c.take_out.new.coarse) c.update_cells.new.cells.of.items
+    c.update_cells.new.cells.weights.items
+    (λ e he. sym (c.take_out.ensures.out (target_at E e)
+    (let t = target_low E c.args.store.now.0 e c.is_stored.ensures.targets_in he in
+    omega (arith, t, c.requires.ready.states))))
+    c.in_ok-update_cells.ensures.cells
+
+pub returns-clause-few_more : goal.returns-clause-few_more
+returns-clause-few_more g c =
+    omega (arith, c.in_ok-update_cells.ensures.few_more, ap length c.as_slice.ensures.value)

@@ -1,0 +1,328 @@
+use Rattle.std.proofs.Common.{◌≡◌, ◌≢◌, ◌+◌, ◌-◌, ◌<◌, ◌∙◌, ℕ, List, length, map, take, drop, sym, refl, arith}
+use Rattle.std.proofs.lemmas.List.{length-take-le, length-drop, length-set}
+use Rattle.modalities.specs.declared.three.Three.{Three}
+use Rattle.iface.specs.Trits.{without_splitter}
+use Rattle.refinable_partition.specs.Blocks.{block_at, states_of}
+use Rattle.sorted_systems.specs.Systems.{system_from}
+use Rattle.refiner.specs.Cells.{round_values, round_voids, source_at, target_at}
+use Rattle.refiner.specs.Grouping.{value_at}
+use Rattle.refiner.specs.Making.{trit_in}
+use Rattle.refiner.proofs.BySource.{updated_none, cells_here, group_is, stays, leaves, moved_all, cells_all, value_in, untouched_alike, sources_rise}
+use Rattle.refiner.proofs.RoundMade.{state_at}
+use Rattle.refiner.proofs.values.update_cells.Goals as goal
+
+pub loop-from-init : goal.loop-from-init
+loop-from-init g c =
+    let E = c.args.store.now.1 in
+    let p = c.args.blocks.now in
+    let q = c.args.coarse.now in
+    let s = c.args.s in
+    let edges = c.args.edges.now in
+    let shapes = c.args.shapes.now in
+    let toward = g.I.Iface.toward c.args.iface.now in
+    let value = g.I.Iface.value c.args.iface.now in
+    let trit = trit_in p q s c.args.c in
+    let all : List Three = round_values value (system_from 0 shapes E) trit in
+    let voids : List Three = round_voids value (system_from 0 shapes E) trit in
+    let untouched : (y : ℕ) → y < states_of p →
+    ((e : ℕ) → e < length E → source_at E e ≡ y → block_at p (target_at E e) ≢ s) →
+    value_at all y ≡ value_at voids y = λ y hy away.
+    untouched_alike value shapes E p q s c.args.c y
+    (omega (arith, hy, c.requires.in_blocks, c.requires.one_shape)) away in
+    let rises = sources_rise E c.is_stored.ensures.ascending in
+    record {
+      in_range = omega arith;
+      one_value = c.requires.one_value;
+      few_more = omega arith;
+      rise = omega arith;
+      updating = (
+        0,
+        rw c.clear.ensures.items (updated_none toward shapes E p q s edges c.requires.edges all voids untouched rises
+            c.args.cells.now.of.items c.args.cells.now.weights.items c.args.values.now.items
+            c.requires.cells),
+      );
+    }
+
+pub update_one-requires-clause-cells : goal.update_one-requires-clause-cells
+update_one-requires-clause-cells g c =
+    let E = c.args.store.now.1 in
+    let p = c.args.blocks.now in
+    let q = c.args.coarse.now in
+    let s = c.args.s in
+    let edges = c.args.edges.now in
+    let shapes = c.args.shapes.now in
+    let toward = g.I.Iface.toward c.args.iface.now in
+    let value = g.I.Iface.value c.args.iface.now in
+    let trit = trit_in p q s c.args.c in
+    let all : List Three = round_values value (system_from 0 shapes E) trit in
+    let voids : List Three = round_voids value (system_from 0 shapes E) trit in
+    let untouched : (y : ℕ) → y < states_of p →
+    ((e : ℕ) → e < length E → source_at E e ≡ y → block_at p (target_at E e) ≢ s) →
+    value_at all y ≡ value_at voids y = λ y hy away.
+    untouched_alike value shapes E p q s c.args.c y
+    (omega (arith, hy, c.requires.in_blocks, c.requires.one_shape)) away in
+    let rises = sources_rise E c.is_stored.ensures.ascending in
+    let inv = c.loop-from.invariant.updating in
+    cells_here toward shapes E p q s edges c.requires.edges all voids untouched rises
+    c.loop-from.from inv.0 c.loop-from.cells.of.items
+    c.loop-from.cells.weights.items c.loop-from.values.items c.loop-from.moved.items inv.1
+    c.group_end-to.result c.group_end-to.ensures.later
+    c.group_end-to.ensures.within c.source-x.result (sym c.source-x.ensures.source)
+    c.group_end-to.ensures.alike c.group_end-to.ensures.other
+
+pub update_one-requires-clause-group : goal.update_one-requires-clause-group
+update_one-requires-clause-group g c =
+    let E = c.args.store.now.1 in
+    let p = c.args.blocks.now in
+    let q = c.args.coarse.now in
+    let s = c.args.s in
+    let edges = c.args.edges.now in
+    let shapes = c.args.shapes.now in
+    let toward = g.I.Iface.toward c.args.iface.now in
+    let value = g.I.Iface.value c.args.iface.now in
+    let trit = trit_in p q s c.args.c in
+    let all : List Three = round_values value (system_from 0 shapes E) trit in
+    let voids : List Three = round_voids value (system_from 0 shapes E) trit in
+    let untouched : (y : ℕ) → y < states_of p →
+    ((e : ℕ) → e < length E → source_at E e ≡ y → block_at p (target_at E e) ≢ s) →
+    value_at all y ≡ value_at voids y = λ y hy away.
+    untouched_alike value shapes E p q s c.args.c y
+    (omega (arith, hy, c.requires.in_blocks, c.requires.one_shape)) away in
+    let rises = sources_rise E c.is_stored.ensures.ascending in
+    let inv = c.loop-from.invariant.updating in
+    group_is toward shapes E p q s edges c.requires.edges all voids untouched rises
+    c.loop-from.from inv.0 c.loop-from.cells.of.items
+    c.loop-from.cells.weights.items c.loop-from.values.items c.loop-from.moved.items inv.1
+    c.group_end-to.result c.group_end-to.ensures.later
+    c.group_end-to.ensures.within c.source-x.result (sym c.source-x.ensures.source)
+    c.group_end-to.ensures.alike c.group_end-to.ensures.other
+
+pub update_one-requires-clause-few : goal.update_one-requires-clause-few
+update_one-requires-clause-few g c =
+    let edges = c.args.edges.now in
+    omega (
+      arith,
+      length-take-le (c.group_end-to.result - c.loop-from.from)
+          (drop c.loop-from.from edges) (omega (
+            arith,
+            length-drop c.loop-from.from edges,
+            c.group_end-to.ensures.within,
+            c.group_end-to.ensures.later,
+          )),
+      c.requires.few,
+      c.group_end-to.ensures.within,
+    )
+
+pub update_one-requires-clause-room : goal.update_one-requires-clause-room
+update_one-requires-clause-room g c =
+    omega (arith, c.loop-from.invariant.few_more, c.requires.room, c.loop-from-test.true)
+
+pub update_one-requires-clause-steps_fit : goal.update_one-requires-clause-steps_fit
+update_one-requires-clause-steps_fit g c =
+    omega (
+      arith,
+      c.loop-from.invariant.rise,
+      c.requires.few,
+      c.loop-from-test.true,
+      c.requires.steps_fit,
+    )
+
+pub loop-from-preserved : goal.loop-from-preserved
+loop-from-preserved g c =
+    let E = c.args.store.now.1 in
+    let p = c.args.blocks.now in
+    let q = c.args.coarse.now in
+    let s = c.args.s in
+    let edges = c.args.edges.now in
+    let shapes = c.args.shapes.now in
+    let toward = g.I.Iface.toward c.args.iface.now in
+    let value = g.I.Iface.value c.args.iface.now in
+    let trit = trit_in p q s c.args.c in
+    let all : List Three = round_values value (system_from 0 shapes E) trit in
+    let voids : List Three = round_voids value (system_from 0 shapes E) trit in
+    let untouched : (y : ℕ) → y < states_of p →
+    ((e : ℕ) → e < length E → source_at E e ≡ y → block_at p (target_at E e) ≢ s) →
+    value_at all y ≡ value_at voids y = λ y hy away.
+    untouched_alike value shapes E p q s c.args.c y
+    (omega (arith, hy, c.requires.in_blocks, c.requires.one_shape)) away in
+    let rises = sources_rise E c.is_stored.ensures.ascending in
+    let inv = c.loop-from.invariant.updating in
+    let x = c.source-x.result in
+    let hx : x < length shapes =
+    omega (arith, c.source-x.ensures.in_range, c.requires.one_shape) in
+    let here = state_at shapes x hx in
+    let all_x : c.in_ok-three.three ≡ value_at all x =
+    c.in_ok-three.ensures.three here.0 here.1
+    ∙ sym (value_in (λ a. value a.shape a.labels (map trit a.targets)) shapes E x here.0 here.1) in
+    let void_x : c.in_ok-three.void ≡ value_at voids x =
+    c.in_ok-three.ensures.void here.0 here.1
+    ∙ sym (value_in (λ a. value a.shape a.labels (without_splitter (map trit a.targets))) shapes E x
+    here.0 here.1) in
+    let many : length (take (c.group_end-to.result - c.loop-from.from) (drop c.loop-from.from edges))
+    ≡ c.group_end-to.result - c.loop-from.from =
+    length-take-le (c.group_end-to.result - c.loop-from.from) (drop c.loop-from.from edges)
+    (omega (
+      arith,
+      length-drop c.loop-from.from edges,
+      c.group_end-to.ensures.within,
+      c.group_end-to.ensures.later,
+    )) in
+    let one : value_at all x ≡ value_at voids x =
+    sym all_x ∙ c.eq.ensures.same.0 c.if-not-eq.false ∙ void_x in
+    record {
+      in_range = c.group_end-to.ensures.within;
+      one_value = c.loop-from.invariant.one_value;
+      few_more = omega (
+        arith,
+        c.in_ok-three.ensures.one_more,
+        c.loop-from.invariant.few_more,
+        c.group_end-to.ensures.later,
+      );
+      rise = omega (
+        arith,
+        c.in_ok-three.ensures.counted,
+        c.loop-from.invariant.rise,
+        many,
+        c.group_end-to.ensures.later,
+      );
+      updating = (
+        x + 1,
+        stays toward shapes E p q s edges c.requires.edges all voids untouched rises
+            c.loop-from.from inv.0 c.loop-from.cells.of.items
+            c.loop-from.cells.weights.items c.loop-from.values.items c.loop-from.moved.items inv.1
+            c.group_end-to.result c.group_end-to.ensures.later
+            c.group_end-to.ensures.within c.source-x.result (sym c.source-x.ensures.source)
+            c.group_end-to.ensures.alike c.group_end-to.ensures.other
+            c.update_one.new.cells.of.items c.update_one.new.cells.weights.items
+            c.in_ok-three.ensures.cells one,
+      );
+    }
+
+pub loop-from-preserved-in_ok-push : goal.loop-from-preserved-in_ok-push
+loop-from-preserved-in_ok-push g c =
+    let E = c.args.store.now.1 in
+    let p = c.args.blocks.now in
+    let q = c.args.coarse.now in
+    let s = c.args.s in
+    let edges = c.args.edges.now in
+    let shapes = c.args.shapes.now in
+    let toward = g.I.Iface.toward c.args.iface.now in
+    let value = g.I.Iface.value c.args.iface.now in
+    let trit = trit_in p q s c.args.c in
+    let all : List Three = round_values value (system_from 0 shapes E) trit in
+    let voids : List Three = round_voids value (system_from 0 shapes E) trit in
+    let untouched : (y : ℕ) → y < states_of p →
+    ((e : ℕ) → e < length E → source_at E e ≡ y → block_at p (target_at E e) ≢ s) →
+    value_at all y ≡ value_at voids y = λ y hy away.
+    untouched_alike value shapes E p q s c.args.c y
+    (omega (arith, hy, c.requires.in_blocks, c.requires.one_shape)) away in
+    let rises = sources_rise E c.is_stored.ensures.ascending in
+    let inv = c.loop-from.invariant.updating in
+    let x = c.source-x.result in
+    let hx : x < length shapes =
+    omega (arith, c.source-x.ensures.in_range, c.requires.one_shape) in
+    let here = state_at shapes x hx in
+    let all_x : c.in_ok-three.three ≡ value_at all x =
+    c.in_ok-three.ensures.three here.0 here.1
+    ∙ sym (value_in (λ a. value a.shape a.labels (map trit a.targets)) shapes E x here.0 here.1) in
+    let void_x : c.in_ok-three.void ≡ value_at voids x =
+    c.in_ok-three.ensures.void here.0 here.1
+    ∙ sym (value_in (λ a. value a.shape a.labels (without_splitter (map trit a.targets))) shapes E x
+    here.0 here.1) in
+    let many : length (take (c.group_end-to.result - c.loop-from.from) (drop c.loop-from.from edges))
+    ≡ c.group_end-to.result - c.loop-from.from =
+    length-take-le (c.group_end-to.result - c.loop-from.from) (drop c.loop-from.from edges)
+    (omega (
+      arith,
+      length-drop c.loop-from.from edges,
+      c.group_end-to.ensures.within,
+      c.group_end-to.ensures.later,
+    )) in
+    let ne : value_at all x ≢ value_at voids x = λ e.
+    (let same = c.eq.ensures.same.1 (all_x ∙ e ∙ sym void_x) in cc) in
+    record {
+      in_range = c.group_end-to.ensures.within;
+      one_value = length-set c.loop-from.values.items x c.in_ok-three.three
+          ∙ c.loop-from.invariant.one_value;
+      few_more = omega (
+        arith,
+        c.in_ok-three.ensures.one_more,
+        c.loop-from.invariant.few_more,
+        c.group_end-to.ensures.later,
+      );
+      rise = omega (
+        arith,
+        c.in_ok-three.ensures.counted,
+        c.loop-from.invariant.rise,
+        many,
+        c.group_end-to.ensures.later,
+      );
+      updating = (
+        x + 1,
+        rw c.in_ok-push.ensures.items (leaves toward shapes E p q s edges c.requires.edges all voids untouched rises
+            c.loop-from.from inv.0 c.loop-from.cells.of.items
+            c.loop-from.cells.weights.items c.loop-from.values.items c.loop-from.moved.items inv.1
+            c.group_end-to.result c.group_end-to.ensures.later
+            c.group_end-to.ensures.within c.source-x.result (sym c.source-x.ensures.source)
+            c.group_end-to.ensures.alike c.group_end-to.ensures.other
+            c.update_one.new.cells.of.items c.update_one.new.cells.weights.items
+            c.in_ok-three.ensures.cells
+            (record { block = c.block_of-block.result; state = x; void = c.in_ok-three.void })
+            c.in_ok-three.three refl
+            (omega (arith, c.source-x.ensures.in_range, c.requires.in_blocks))
+            (omega (arith, c.source-x.ensures.in_range, c.loop-from.invariant.one_value))
+            c.block_of-block.ensures.block void_x all_x ne),
+      );
+    }
+
+pub returns-clause-few_more : goal.returns-clause-few_more
+returns-clause-few_more g c =
+    omega (arith, c.loop-from.invariant.few_more, c.loop-from.invariant.in_range)
+
+pub returns-clause-cells : goal.returns-clause-cells
+returns-clause-cells g c =
+    let E = c.args.store.now.1 in
+    let p = c.args.blocks.now in
+    let q = c.args.coarse.now in
+    let s = c.args.s in
+    let edges = c.args.edges.now in
+    let shapes = c.args.shapes.now in
+    let toward = g.I.Iface.toward c.args.iface.now in
+    let value = g.I.Iface.value c.args.iface.now in
+    let trit = trit_in p q s c.args.c in
+    let all : List Three = round_values value (system_from 0 shapes E) trit in
+    let voids : List Three = round_voids value (system_from 0 shapes E) trit in
+    let untouched : (y : ℕ) → y < states_of p →
+    ((e : ℕ) → e < length E → source_at E e ≡ y → block_at p (target_at E e) ≢ s) →
+    value_at all y ≡ value_at voids y = λ y hy away.
+    untouched_alike value shapes E p q s c.args.c y
+    (omega (arith, hy, c.requires.in_blocks, c.requires.one_shape)) away in
+    let rises = sources_rise E c.is_stored.ensures.ascending in
+    let inv = c.loop-from.invariant.updating in
+    cells_all toward shapes E p q s edges c.requires.edges all voids untouched rises
+    c.loop-from.from inv.0 c.loop-from.cells.of.items
+    c.loop-from.cells.weights.items c.loop-from.values.items c.loop-from.moved.items inv.1 (omega arith)
+
+pub returns-clause-moved : goal.returns-clause-moved
+returns-clause-moved g c =
+    let E = c.args.store.now.1 in
+    let p = c.args.blocks.now in
+    let q = c.args.coarse.now in
+    let s = c.args.s in
+    let edges = c.args.edges.now in
+    let shapes = c.args.shapes.now in
+    let toward = g.I.Iface.toward c.args.iface.now in
+    let value = g.I.Iface.value c.args.iface.now in
+    let trit = trit_in p q s c.args.c in
+    let all : List Three = round_values value (system_from 0 shapes E) trit in
+    let voids : List Three = round_voids value (system_from 0 shapes E) trit in
+    let untouched : (y : ℕ) → y < states_of p →
+    ((e : ℕ) → e < length E → source_at E e ≡ y → block_at p (target_at E e) ≢ s) →
+    value_at all y ≡ value_at voids y = λ y hy away.
+    untouched_alike value shapes E p q s c.args.c y
+    (omega (arith, hy, c.requires.in_blocks, c.requires.one_shape)) away in
+    let rises = sources_rise E c.is_stored.ensures.ascending in
+    let inv = c.loop-from.invariant.updating in
+    moved_all toward shapes E p q s edges c.requires.edges all voids untouched rises
+    c.loop-from.from inv.0 c.loop-from.cells.of.items
+    c.loop-from.cells.weights.items c.loop-from.values.items c.loop-from.moved.items inv.1 (omega arith)
