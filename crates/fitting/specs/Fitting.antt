@@ -97,7 +97,8 @@ places fs k (u ∷ us) = found (fit_at fs k u) (λ v. made (λ vs. v ∷ vs) (pl
 -- a state
 abbrev pub state_fit : List (List ℕ) → Fit
 state_fit names u =
-    needs (word u) WrongShape (λ w. needs (place_of w names) UnknownState (λ i. Ok (fitted.State i)))
+    needs (word u) WrongShape
+    (λ w. needs (place_of w names) UnknownState (λ i. Ok (fitted.State i)))
 
 -- a label
 abbrev pub label_fit : LabelSet → Fit
@@ -114,7 +115,9 @@ abbrev pub number_fit : Fit
 number_fit u =
     needs (word u) WrongShape
     (λ w. demands (is_digits w) NotALabel
-    (Ok (if nat_le (number_of w) number_limit then fitted.Label (number_of w) else fitted.OverBound)))
+    (Ok (if nat_le (number_of w) number_limit
+        then fitted.Label (number_of w)
+        else fitted.OverBound)))
 
 -- a tuple with a part for each place
 abbrev pub product_fit : List Fit → Fit
@@ -182,7 +185,8 @@ is_alone e = is_none (weight_tree e)
 
 -- a set
 abbrev pub set_of : Fit → List Entry → Found Fitted
-set_of f es = demands (list_all is_alone es) WrongShape (made fitted.Set (each (λ e. f (held e)) es))
+set_of f es =
+    demands (list_all is_alone es) WrongShape (made fitted.Set (each (λ e. f (held e)) es))
 
 abbrev pub set_fit : List Fit → Fit
 set_fit fs u = needs (entries u) WrongShape (set_of (fit_at fs 0))

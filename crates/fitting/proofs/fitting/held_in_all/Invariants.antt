@@ -6,7 +6,8 @@ use Rattle.fitting.proofs.fitting.held_in_all.Given as goal
 
 -- what the rest holds goes on to what all hold
 abbrev pub invariant-loop-slot : goal.invariant-loop-slot
-invariant-loop-slot l = held_behind l.values.items (all_held (into_iter_items l.left)) ≡ all_held l.fn.slots.items
+invariant-loop-slot l = held_behind l.values.items (all_held (into_iter_items l.left))
+    ≡ all_held l.fn.slots.items
 
 abbrev pub decreases-loop-slot : goal.decreases-loop-slot
 decreases-loop-slot l = into_iter_len l.left
