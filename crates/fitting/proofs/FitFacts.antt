@@ -23,10 +23,10 @@ use Rattle.fitting.specs.Fitting.{needs, demands, number_fit, Fit, no_fit, fit_a
 pub fit-at : (t : Nodes) → IsTerm t → (names : List (List ℕ)) (p : ℕ) → p < length t → (m : Node)
     → m ≡ node_at t p → (u : Tree) (r : Result Fitted FitFault)
     → Gives r (fit_step names m (map (fitting t names) (children_at t p)) u)
-        → Gives r (fitting t names p u)
+    → Gives r (fitting t names p u)
 fit-at t is names p h m e u r given =
     subst (Gives r) (ap (λ n. fit_step names n (map (fitting t names) (children_at t p)) u) e
-        ∙ sym (ap (λ (f : Fit). f u) (fold-at no_fit (fit_step names) t is p h))) given
+    ∙ sym (ap (λ (f : Fit). f u) (fold-at no_fit (fit_step names) t is p h))) given
 
 none_some : {X : Type 0} (x : X) → None ≡ Some x → ⊥
 none_some x e = cc
@@ -68,7 +68,7 @@ ok_err n e q = cc
 -- a number that is read is the one that the digits spell, within the bound
 pub digits-ok : (w : List ℕ) (n : Numeral) → is_digits w ≡ true → reading_of w ≡ Ok n
     → (if nat_le (number_of w) number_limit then fitted.Label (number_of w) else fitted.OverBound)
-        ≡ fitted.Label (unsigned_abs n.p)
+    ≡ fitted.Label (unsigned_abs n.p)
 digits-ok w n h e = by (nat_le (number_of w) number_limit) refl
   where
     by : (b : Bool) → nat_le (number_of w) number_limit ≡ b
@@ -76,8 +76,8 @@ digits-ok w n h e = by (nat_le (number_of w) number_limit) refl
         ≡ fitted.Label (unsigned_abs n.p)
     by true small =
         let same : n ≡ numeral (pos (number_of w)) 1 =
-            ok_same n (numeral (pos (number_of w)) 1)
-            (sym e ∙ reading_of-digits w h (leb-true (number_of w) number_limit small)) in
+        ok_same n (numeral (pos (number_of w)) 1)
+        (sym e ∙ reading_of-digits w h (leb-true (number_of w) number_limit small)) in
         ap (λ (m : Numeral). fitted.Label (unsigned_abs m.p)) (sym same)
     by false over = absurd (ok_err n (numeral_fault.OverBound false)
         (sym e ∙ digits-reading w h over))
@@ -85,7 +85,7 @@ digits-ok w n h e = by (nat_le (number_of w) number_limit) refl
 -- a number over the bound is read as one
 pub digits-over : (w : List ℕ) (f : NumeralFault) → is_digits w ≡ true → reading_of w ≡ Err f
     → (if nat_le (number_of w) number_limit then fitted.Label (number_of w) else fitted.OverBound)
-        ≡ fitted.OverBound
+    ≡ fitted.OverBound
 digits-over w f h e = by (nat_le (number_of w) number_limit) refl
   where
     by : (b : Bool) → nat_le (number_of w) number_limit ≡ b
@@ -97,10 +97,10 @@ digits-over w f h e = by (nat_le (number_of w) number_limit) refl
 -- digits alone fit as the number that they spell
 pub number-fits : (u : Tree) (w : List ℕ) → word u ≡ Some w → is_digits w ≡ true
     → number_fit u ≡ Ok (if nat_le (number_of w) number_limit then fitted.Label
-        (number_of w) else fitted.OverBound)
+    (number_of w) else fitted.OverBound)
 number-fits u w here h =
     ap (λ o. needs o WrongShape (λ v. demands (is_digits v) NotALabel
-        (Ok (if nat_le (number_of v) number_limit then fitted.Label
-        (number_of v) else fitted.OverBound)))) here
+    (Ok (if nat_le (number_of v) number_limit then fitted.Label
+    (number_of v) else fitted.OverBound)))) here
     ∙ ap (λ b. demands b NotALabel (Ok (if nat_le (number_of w) number_limit then fitted.Label
-        (number_of w) else fitted.OverBound))) h
+    (number_of w) else fitted.OverBound))) h

@@ -56,14 +56,14 @@ weighed-ok :
 weighed-ok m (Err numeral_fault.NotANumber) c e = absurd (err_ok NotANumber c e)
 weighed-ok m (Err (numeral_fault.OverBound negative)) c e =
     let (e1, f1) =
-        demands-ok (not (is_from_zero m && negative)) Negative (Ok weight.OverBound) c e in
+    demands-ok (not (is_from_zero m && negative)) Negative (Ok weight.OverBound) c e in
     over (sym (ok_same weight.OverBound c f1))
 weighed-ok m (Ok n) c e =
     let below : Bool = int_lt n.p (pos 0) in
     let whole : Bool = has_fractions m || (n.q == 1) in
     let (e1, f1) =
-        demands-ok (not (is_from_zero m && below)) Negative
-        (demands whole NotANumber (Ok (weight.Fraction n))) c e in
+    demands-ok (not (is_from_zero m && below)) Negative
+    (demands whole NotANumber (Ok (weight.Fraction n))) c e in
     let (e2, f2) = demands-ok whole NotANumber (Ok (weight.Fraction n)) c f1 in
     fraction n refl (sym (ok_same (weight.Fraction n) c f2))
     (record { natural = λ h. not_both (is_from_zero m) below e1 h })
@@ -130,7 +130,7 @@ entries_good :
 entries_good m [] all = refl
 entries_good m (e ∷ es) all =
     and_from (are_numerals e.0 && is_numeral e.1)
-        (list_all (λ e. e.0 && is_numeral e.1) (tested es))
+    (list_all (λ e. e.0 && is_numeral e.1) (tested es))
     (and_from (are_numerals e.0) (is_numeral e.1) all.0.0 all.0.1.numeral)
     (entries_good m es all.1)
 
@@ -153,28 +153,28 @@ at_good (g ∷ gs) k all = by (k == 0) (at_good gs (k - 1) all.1)
 state_good : (names : List (List ℕ)) (u : Tree) (f : Fitted) → state_fit names u ≡ Ok f → IsGood f
 state_good names u f e =
     let named : List ℕ → Found Fitted = λ w.
-        needs (place_of w names) UnknownState (λ i. Ok (fitted.State i)) in
+    needs (place_of w names) UnknownState (λ i. Ok (fitted.State i)) in
     let (w, e1, f1) = needs-ok (word u) WrongShape named f e in
     let (i, e2, f2) = needs-ok (place_of w names) UnknownState (λ i. Ok (fitted.State i)) f f1 in
     numerals_out f (Fitted-F.State i)
-        (ap out-Fitted (sym (ok_same (fitted.State i) f f2)) ∙ shown.outs-State i)
+    (ap out-Fitted (sym (ok_same (fitted.State i) f f2)) ∙ shown.outs-State i)
 
 label_good : (labels : LabelSet) (u : Tree) (f : Fitted) → label_fit labels u ≡ Ok f → IsGood f
 label_good labels u f e =
     let named : List ℕ → Found Fitted = λ w.
-        needs (label_number labels w) NotALabel (λ k. Ok (fitted.Label k)) in
+    needs (label_number labels w) NotALabel (λ k. Ok (fitted.Label k)) in
     let (w, e1, f1) = needs-ok (word u) WrongShape named f e in
     let (k, e2, f2) = needs-ok (label_number labels w) NotALabel (λ k. Ok (fitted.Label k)) f f1 in
     numerals_out f (Fitted-F.Label k)
-        (ap out-Fitted (sym (ok_same (fitted.Label k) f f2)) ∙ shown.outs-Label k)
+    (ap out-Fitted (sym (ok_same (fitted.Label k) f f2)) ∙ shown.outs-Label k)
 
 number_good : (u : Tree) (f : Fitted) → number_fit u ≡ Ok f → IsGood f
 number_good u f e =
     let number : List ℕ → Fitted = λ w.
-        if nat_le (number_of w) number_limit then fitted.Label
-            (number_of w) else fitted.OverBound in
+    if nat_le (number_of w) number_limit then fitted.Label
+    (number_of w) else fitted.OverBound in
     let (w, e1, f1) =
-        needs-ok (word u) WrongShape (λ w. demands (is_digits w) NotALabel (Ok (number w))) f e in
+    needs-ok (word u) WrongShape (λ w. demands (is_digits w) NotALabel (Ok (number w))) f e in
     let (e2, f2) = demands-ok (is_digits w) NotALabel (Ok (number w)) f f1 in
     by (number_of w) (nat_le (number_of w) number_limit) (ok_same (number w) f f2)
   where
@@ -192,9 +192,9 @@ module _ (gs : List Fit) (all : AllByRecursion HasNumerals gs) where
   product_good u f e =
       let w = product-ok gs u f e in
       numerals_out f (Fitted-F.Tuple w.values)
-          (ap out-Fitted (sym w.is) ∙ shown.outs-Tuple w.values)
+      (ap out-Fitted (sym w.is) ∙ shown.outs-Tuple w.values)
       ∙ list_good w.values
-        (places-good gs IsGood (λ k. (at_good gs k all).good) 0 w.trees w.values w.read)
+      (places-good gs IsGood (λ k. (at_good gs k all).good) 0 w.trees w.values w.read)
 
   sum_good : (u : Tree) (f : Fitted) → sum_fit gs u ≡ Ok f → IsGood f
   sum_good u f e =
@@ -207,7 +207,7 @@ module _ (gs : List Fit) (all : AllByRecursion HasNumerals gs) where
   power_good labels u f e =
       let w = power-ok gs IsGood first labels u f e in
       numerals_out f (Fitted-F.Tuple w.values)
-          (ap out-Fitted (sym w.is) ∙ shown.outs-Tuple w.values)
+      (ap out-Fitted (sym w.is) ∙ shown.outs-Tuple w.values)
       ∙ list_good w.values w.all
 
   set_good : (u : Tree) (f : Fitted) → set_fit gs u ≡ Ok f → IsGood f
@@ -220,7 +220,7 @@ module _ (gs : List Fit) (all : AllByRecursion HasNumerals gs) where
   weights_good m u f e =
       let w = weights-ok gs IsGood first m (IsRead m) (weight-read m) u f e in
       numerals_out f (Fitted-F.Weights w.pairs)
-          (ap out-Fitted (sym w.is) ∙ shown.outs-Weights w.pairs)
+      (ap out-Fitted (sym w.is) ∙ shown.outs-Weights w.pairs)
       ∙ entries_good m w.pairs w.all
 
 step_good :

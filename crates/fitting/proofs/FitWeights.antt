@@ -48,7 +48,7 @@ module _ {A B C D : Type 0} (R : A → B → C → D → Type 0) (a : A) (b : B)
     (f : Node → List A → A) (g : Node → List B → B) (h : Node → List C → C) (i : Node → List D → D)
     (at_other : R a b c d)
     (keeps : (m : Node) (xs : List A) (ys : List B) (zs : List C) (ws : List D)
-        → Zip4 R xs ys zs ws → R (f m xs) (g m ys) (h m zs) (i m ws)) (t : Nodes) where
+    → Zip4 R xs ys zs ws → R (f m xs) (g m ys) (h m zs) (i m ws)) (t : Nodes) where
   abbrev IsKept : ℕ → ℕ → Type 0
   IsKept n p =
       R (fold_within a f t n p) (fold_within b g t n p) (fold_within c h t n p)
@@ -119,9 +119,9 @@ module _ (l : ℕ) where
       by :
           (o : Bool)
           → IsKeptBy (fit_at gs (k - 1)) (scale_at ss (k - 1)) (check_at ys (k - 1))
-              (check_at zs (k - 1))
+          (check_at zs (k - 1))
           → IsKeptBy (if o then g else fit_at gs (k - 1)) (if o then s else scale_at ss (k - 1))
-            (if o then y else check_at ys (k - 1)) (if o then z else check_at zs (k - 1))
+          (if o then y else check_at ys (k - 1)) (if o then z else check_at zs (k - 1))
       by true later = all.0
       by false later = later
 
@@ -143,12 +143,12 @@ module _ (l : ℕ) where
       let (hs, e2, is) = made-ok (λ (vs : List Fitted). f ∷ vs) (places (g ∷ gs) 1 us) fs f1 in
       let tail : List Value = scaled_places ss 0 hs in
       let first : scaled_places (s ∷ ss) 0 fs ≡ s f ∷ tail =
-          ap (scaled_places (s ∷ ss) 0) (sym is) ∙ ap (λ vs. s f ∷ vs) (scaled-suc l 0 s ss 0 hs) in
+      ap (scaled_places (s ∷ ss) 0) (sym is) ∙ ap (λ vs. s f ∷ vs) (scaled-suc l 0 s ss 0 hs) in
       let p = and_parts (y (s f)) (each_holds ys tail) (ap (each_holds (y ∷ ys)) (sym first) ∙ h) in
       ap (each_holds (z ∷ zs)) first
       ∙ and_from (z (s f)) (each_holds zs tail) (all.0.kept u f e1 p.0)
-        (places_kept gs ss ys zs all.1 us hs (omega arith)
-            (sym (places-suc l 0 g gs 0 us) ∙ e2) p.1)
+      (places_kept gs ss ys zs all.1 us hs (omega arith)
+      (sym (places-suc l 0 g gs 0 us) ∙ e2) p.1)
 
   module _ (gs : List Fit) (ss : List Scale) (ys zs : List Check) (all : AllKept gs ss ys zs) where
     abbrev IsGood : Fitted → Type 0
@@ -173,7 +173,7 @@ module _ (l : ℕ) where
 
     entries_kept :
         (m : Node) (es : List (Fitted × Weight))
-            → AllByRecursion (λ w. IsGood w.0 × IsRead m w.1) es
+        → AllByRecursion (λ w. IsGood w.0 × IsRead m w.1) es
         → entries_hold (check_at ys 0) (weighed m es) ≡ true
         → entries_hold (check_at zs 0) (weighed m es) ≡ true
     entries_kept m [] good h = refl
@@ -204,13 +204,13 @@ module _ (l : ℕ) where
         let w = product-ok gs u f e in
         let vs : List Value = scaled_places ss 0 w.values in
         let is : scaled_step l Product ss f ≡ value.Tuple vs =
-            ap (scaled_step l Product ss) (sym w.is)
-            ∙ ap (scaled_level l Product ss) (shown.outs-Tuple w.values) in
+        ap (scaled_step l Product ss) (sym w.is)
+        ∙ ap (scaled_level l Product ss) (shown.outs-Tuple w.values) in
         let shows : parts (value.Tuple vs) ≡ vs = ap parts_in (outs-Tuple vs) in
         subst (on_value Product) (sym is)
         (λ h. ap (each_holds zs) shows
         ∙ places_kept gs ss ys zs all w.trees w.values w.count w.read
-            (ap (each_holds ys) (sym shows) ∙ h))
+        (ap (each_holds ys) (sym shows) ∙ h))
 
     sum_kept : (u : Tree) (f : Fitted) → sum_fit gs u ≡ Ok f → Step Sum f
     sum_kept u f e =
@@ -218,14 +218,14 @@ module _ (l : ℕ) where
         let k : ℕ = w.index in
         let v : Value = scale_at ss k w.value in
         let is : scaled_step l Sum ss f ≡ value.Inj k v =
-            ap (scaled_step l Sum ss) (sym w.is)
-            ∙ ap (scaled_level l Sum ss) (shown.outs-Inj k w.value) in
+        ap (scaled_step l Sum ss) (sym w.is)
+        ∙ ap (scaled_level l Sum ss) (shown.outs-Inj k w.value) in
         let which : index (value.Inj k v) ≡ k = ap index_in (outs-Inj k v) in
         let what : inner (value.Inj k v) ≡ v = ap (inner_in (value.Inj k v)) (outs-Inj k v) in
         subst (on_value Sum) (sym is)
         (λ h. (λ i. check_at zs (which i) (what i))
         ∙ (at_kept gs ss ys zs k all).kept w.tree w.value w.read
-          (sym (λ i. check_at ys (which i) (what i)) ∙ h))
+        (sym (λ i. check_at ys (which i) (what i)) ∙ h))
 
     power_kept : (labels : LabelSet) (u : Tree) (f : Fitted) → power_fit labels gs u ≡ Ok f
         → Step (Power labels) f
@@ -233,8 +233,8 @@ module _ (l : ℕ) where
         let w = power-ok gs IsGood first labels u f e in
         let vs : List Value = map (scale_at ss 0) w.values in
         let is : scaled_step l (Power labels) ss f ≡ value.Tuple vs =
-            ap (scaled_step l (Power labels) ss) (sym w.is)
-            ∙ ap (scaled_level l (Power labels) ss) (shown.outs-Tuple w.values) in
+        ap (scaled_step l (Power labels) ss) (sym w.is)
+        ∙ ap (scaled_level l (Power labels) ss) (shown.outs-Tuple w.values) in
         let shows : parts (value.Tuple vs) ≡ vs = ap parts_in (outs-Tuple vs) in
         subst (on_value (Power labels)) (sym is)
         (λ h. ap (list_all (check_at zs 0)) shows
@@ -245,8 +245,8 @@ module _ (l : ℕ) where
         let w = set-ok gs IsGood first u f e in
         let vs : List Value = map (scale_at ss 0) w.values in
         let is : scaled_step l Powerset ss f ≡ value.Set vs =
-            ap (scaled_step l Powerset ss) (sym w.is)
-            ∙ ap (scaled_level l Powerset ss) (shown.outs-Set w.values) in
+        ap (scaled_step l Powerset ss) (sym w.is)
+        ∙ ap (scaled_level l Powerset ss) (shown.outs-Set w.values) in
         let shows : parts (value.Set vs) ≡ vs = ap parts_in (outs-Set vs) in
         subst (on_value Powerset) (sym is)
         (λ h. ap (list_all (check_at zs 0)) shows
@@ -260,14 +260,14 @@ module _ (l : ℕ) where
     weighted :
         (m : Node)
         → ((es : List (Fitted × Weight)) → AllByRecursion (λ w. IsGood w.0 × IsRead m w.1) es
-            → (v : Value) → entries v ≡ weighed m es → on_value m v)
+        → (v : Value) → entries v ≡ weighed m es → on_value m v)
         → (u : Tree) (f : Fitted) → weights_fit m gs u ≡ Ok f → Step m f
     weighted m asks u f e =
         let w = weights-ok gs IsGood first m (IsRead m) (weight-read m) u f e in
         let vs : List (Value × ℤ) = weighed m w.pairs in
         let is : scaled_step l m ss f ≡ value.Weights vs =
-            ap (scaled_step l m ss) (sym w.is)
-            ∙ ap (scaled_level l m ss) (shown.outs-Weights w.pairs) in
+        ap (scaled_step l m ss) (sym w.is)
+        ∙ ap (scaled_level l m ss) (shown.outs-Weights w.pairs) in
         subst (on_value m) (sym is)
         (asks w.pairs w.all (value.Weights vs) (ap entries_in (outs-Weights vs)))
 
@@ -282,7 +282,7 @@ module _ (l : ℕ) where
 
     distribution_kept :
         (es : List (Fitted × Weight)) → AllByRecursion
-            (λ w. IsGood w.0 × IsRead Distribution w.1) es
+        (λ w. IsGood w.0 × IsRead Distribution w.1) es
         → (v : Value) → entries v ≡ weighed Distribution es → on_value Distribution v
     distribution_kept es good v shows h =
         let sums : Bool = int_eq (joint_weight Distribution (entries v)) (pos l) in
@@ -305,7 +305,7 @@ module _ (l : ℕ) where
       (names : List (List ℕ)) (m : Node) (gs : List Fit) (ss : List Scale) (ys zs : List Check)
       → AllKept gs ss ys zs
       → IsKeptBy (fit_step names m gs) (scaled_step l m ss) (sums_step are_any l m ys)
-        (sums_step are_from_zero l m zs)
+      (sums_step are_from_zero l m zs)
   step_kept names State gs ss ys zs all = record { kept = λ u f e h. refl }
   step_kept names (Constant labels) gs ss ys zs all = record { kept = λ u f e h. refl }
   step_kept names Naturals gs ss ys zs all = record { kept = λ u f e h. refl }

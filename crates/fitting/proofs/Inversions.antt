@@ -54,7 +54,7 @@ abbrev pub SlotHolds : (Fitted → Type 0) → Option Fitted → Type 0
 SlotHolds P None = Unit {0}
 SlotHolds P (Some v) = P v
 
-set-good : {X : Type 0} (Q : X → Type 0) (xs : List X) (k : ℕ) (y : X) → AllByRecursion Q xs → Q y
+pub set-good : {X : Type 0} (Q : X → Type 0) (xs : List X) (k : ℕ) (y : X) → AllByRecursion Q xs → Q y
     → AllByRecursion Q (slice_set xs k y)
 set-good Q [] k y all h = tt
 set-good Q (x ∷ xs) zero y all h = (h, all.1)
@@ -64,29 +64,31 @@ set-good Q (x ∷ xs) (suc k) y all h = (all.0, set-good Q xs k y all.1 h)
 pub filled-good : (labels : LabelSet) (g : Fit) (P : Fitted → Type 0)
     → ((u : _) (v : Fitted) → g u ≡ Ok v → P v) → (es : List Entry) (slots out : Slots)
     → AllByRecursion (SlotHolds P) slots → filled labels g slots es ≡ Ok out
-        → AllByRecursion (SlotHolds P) out × (length out ≡ length slots)
+    → AllByRecursion (SlotHolds P) out × (length out ≡ length slots)
 filled-good labels g P h [] slots out all e = let same =
-    ok_same slots out e in (subst (λ (l : Slots). AllByRecursion (SlotHolds P) l) same all,
-    ap length (sym same))
+    ok_same slots out e in (
+      subst (λ (l : Slots). AllByRecursion (SlotHolds P) l) same all,
+      ap length (sym same),
+    )
 filled-good labels g P h (entry ∷ es) slots out all e =
     let (w, e1, f1) = needs-ok (key entry) WrongShape
-        (λ w. needs (weight_tree entry) WrongShape
-        (λ u. needs (label_number labels w) NotALabel
-        (λ k. demands (is_free slots k) RepeatedKey
-        (found (g u) (λ v. filled labels g (slice_set slots k (Some v)) es))))) out e in
+    (λ w. needs (weight_tree entry) WrongShape
+    (λ u. needs (label_number labels w) NotALabel
+    (λ k. demands (is_free slots k) RepeatedKey
+    (found (g u) (λ v. filled labels g (slice_set slots k (Some v)) es))))) out e in
     let (u, e2, f2) = needs-ok (weight_tree entry) WrongShape
-        (λ u. needs (label_number labels w) NotALabel
-        (λ k. demands (is_free slots k) RepeatedKey
-        (found (g u) (λ v. filled labels g (slice_set slots k (Some v)) es)))) out f1 in
+    (λ u. needs (label_number labels w) NotALabel
+    (λ k. demands (is_free slots k) RepeatedKey
+    (found (g u) (λ v. filled labels g (slice_set slots k (Some v)) es)))) out f1 in
     let (k, e3, f3) = needs-ok (label_number labels w) NotALabel
-        (λ k. demands (is_free slots k) RepeatedKey
-        (found (g u) (λ v. filled labels g (slice_set slots k (Some v)) es))) out f2 in
+    (λ k. demands (is_free slots k) RepeatedKey
+    (found (g u) (λ v. filled labels g (slice_set slots k (Some v)) es))) out f2 in
     let (e4, f4) = demands-ok (is_free slots k) RepeatedKey
-        (found (g u) (λ v. filled labels g (slice_set slots k (Some v)) es)) out f3 in
+    (found (g u) (λ v. filled labels g (slice_set slots k (Some v)) es)) out f3 in
     let (v, e5, f5) = found-ok (g u) (λ v. filled labels g (slice_set slots k (Some v)) es) out
-        f4 in
+    f4 in
     let rest = filled-good labels g P h es (slice_set slots k (Some v)) out
-        (set-good (SlotHolds P) slots k (Some v) all (h u v e5)) f5 in
+    (set-good (SlotHolds P) slots k (Some v) all (h u v e5)) f5 in
     (rest.0, rest.1 ∙ length-set slots k (Some v))
 
 some_lists : (vs us : List Fitted) → ◌≡◌ {A = Option (List Fitted)} (Some vs) (Some us) → vs ≡ us
@@ -100,8 +102,10 @@ pub held-good : (P : Fitted → Type 0) (slots : Slots) (vs : List Fitted)
     → AllByRecursion (SlotHolds P) slots → all_held slots ≡ Some vs
     → AllByRecursion P vs × (length vs ≡ length slots)
 held-good P [] vs all e = let same =
-    some_lists [] vs e in (subst (λ (l : List Fitted). AllByRecursion P l) same tt,
-    ap length (sym same))
+    some_lists [] vs e in (
+      subst (λ (l : List Fitted). AllByRecursion P l) same tt,
+      ap length (sym same),
+    )
 held-good P (None ∷ slots) vs all e = absurd (none_list vs e)
 held-good P (Some v ∷ slots) vs all e =
     by (all_held slots) refl (λ us q. held-good P slots us all.1 q) e
@@ -110,13 +114,15 @@ held-good P (Some v ∷ slots) vs all e =
         → ((us : List Fitted) → all_held slots ≡ Some us
         → AllByRecursion P us × (length us ≡ length slots))
         → option_map_or (λ us. Some (v ∷ us)) o None ≡ Some vs
-            → AllByRecursion P vs × (length vs ≡ length (Some v ∷ slots))
+        → AllByRecursion P vs × (length vs ≡ length (Some v ∷ slots))
     by None q rest e = absurd (none_list vs e)
     by (Some us) q rest e =
         let w = rest us q in
-        let same = some_lists (v ∷ us) vs e in
-        (subst (λ (l : List Fitted). AllByRecursion P l) same (all.0, w.0), ap length (sym same)
-            ∙ ap suc w.1)
+        let same = some_lists (v ∷ us) vs e in (
+          subst (λ (l : List Fitted). AllByRecursion P l) same (all.0, w.0),
+          ap length (sym same)
+              ∙ ap suc w.1,
+        )
 
 -- empty slots hold whatever is asked
 pub empty-good : (P : Fitted → Type 0) (k : ℕ) → AllByRecursion (SlotHolds P) (replicate k None)

@@ -57,8 +57,10 @@ joined-value l qs (Some m) h = h.0
 pub joined-within :
     (l : ℕ) (qs : List ℕ) (o : Option ℕ) → IsJoined l qs o
     → IsSome o ↔ (common_multiple l qs ≤ denominator_limit)
-joined-within l qs None h = ((λ w. absurd (true≢false (sym w))),
-    (λ w. absurd (omega (arith, h, w))))
+joined-within l qs None h = (
+  (λ w. absurd (true≢false (sym w))),
+  (λ w. absurd (omega (arith, h, w))),
+)
 joined-within l qs (Some m) h = ((λ w. omega (arith, h.0, h.1)), (λ w. refl))
 
 pub joined-range :
@@ -90,14 +92,14 @@ joined-is l (q ∷ qs) h k all =
         → IsJoined l (q ∷ qs) (joined l (q ∷ qs))
     by true small rest =
         let is : joined_with l q ≡ Some m =
-            ap (λ c. if c then Some m else None)
-            (and_from (nat_le 1 l) (nat_le 1 q && nat_le m denominator_limit) first
-            (and_from (nat_le 1 q) (nat_le m denominator_limit) second small)) in
+        ap (λ c. if c then Some m else None)
+        (and_from (nat_le 1 l) (nat_le 1 q && nat_le m denominator_limit) first
+        (and_from (nat_le 1 q) (nat_le m denominator_limit) second small)) in
         subst (λ o. IsJoined l (q ∷ qs) (option_and_then (λ n. joined n qs) o)) (sym is)
         (rest (leb-true m denominator_limit small))
     by false large rest =
         let is : joined_with l q ≡ None =
-            (λ i. if first i && (second i && large i) then Some m else None) in
+        (λ i. if first i && (second i && large i) then Some m else None) in
         let over : denominator_limit < m = leb-false m denominator_limit large in
         subst (λ o. IsJoined l (q ∷ qs) (option_and_then (λ n. joined n qs) o)) (sym is)
         (omega (arith, over, multiple-grows m qs (lcm-positive l q h all.0) all.1))
@@ -137,7 +139,7 @@ joined-append l (x ∷ xs) ys = by (joined_with l x) (λ m. joined-append m xs y
         (o : Option ℕ)
         → ((m : ℕ) → joined m (xs ++ ys) ≡ option_and_then (λ n. joined n ys) (joined m xs))
         → option_and_then (λ m. joined m (xs ++ ys)) o
-          ≡ option_and_then (λ m. joined m ys) (option_and_then (λ m. joined m xs) o)
+        ≡ option_and_then (λ m. joined m ys) (option_and_then (λ m. joined m xs) o)
     by None again = refl
     by (Some m) again = again m
 
@@ -158,9 +160,11 @@ joined-stops l xs ys answer h e =
 module _ where
   is_positive : (w : Weight) → is_numeral w ≡ true → ArePositive (denominator_of w)
   is_positive weight.OverBound h = tt
-  is_positive (weight.Fraction n) h =
-      (leb-true 1 n.q (and_parts (nat_le 1 n.q) (nat_le n.q numeral_limit && nat_le
-          (unsigned_abs n.p) numeral_limit) h).0, tt)
+  is_positive (weight.Fraction n) h = (
+    leb-true 1 n.q (and_parts (nat_le 1 n.q) (nat_le n.q numeral_limit && nat_le
+        (unsigned_abs n.p) numeral_limit) h).0,
+    tt,
+  )
 
   both_positive : (xs ys : List ℕ) → ArePositive xs → ArePositive ys → ArePositive (xs ++ ys)
   both_positive [] ys a b = b
@@ -177,7 +181,7 @@ module _ where
 
   list_positive :
       (ys : List ((f : Fitted) × IsGood f))
-          → list_all (λ b. b) (map are_numerals (values ys)) ≡ true
+      → list_all (λ b. b) (map are_numerals (values ys)) ≡ true
       → ArePositive (flat_map (λ qs. qs) (map denominators (values ys)))
   list_positive [] h = tt
   list_positive (y ∷ ys) h =
@@ -195,8 +199,8 @@ module _ where
   entries_positive [] h = tt
   entries_positive (y ∷ ys) h =
       let p =
-          and_parts (are_numerals y.0.0 && is_numeral y.1)
-          (list_all (λ e. e.0 && is_numeral e.1) (numbered (pairs ys))) h in
+      and_parts (are_numerals y.0.0 && is_numeral y.1)
+      (list_all (λ e. e.0 && is_numeral e.1) (numbered (pairs ys))) h in
       let q = and_parts (are_numerals y.0.0) (is_numeral y.1) p.0 in
       both_positive (denominators y.0.0 ++ denominator_of y.1) (entry_denominators (pairs ys))
       (both_positive (denominators y.0.0) (denominator_of y.1) (y.0.1 q.0) (is_positive y.1 q.1))
@@ -228,16 +232,16 @@ module _ where
   numerals_roll x =
       fold_out-Fitted Bool numerals_step (roll-Fitted x)
       ∙ ap (λ (y : Fitted-F Fitted). numerals_step (map-Fitted Fitted Bool are_numerals y))
-        (out-roll-Fitted x)
+      (out-roll-Fitted x)
 
   denominators_roll :
       (x : Fitted-F Fitted)
       → denominators (roll-Fitted x)
-        ≡ denominators_step (map-Fitted Fitted (List ℕ) denominators x)
+      ≡ denominators_step (map-Fitted Fitted (List ℕ) denominators x)
   denominators_roll x =
       fold_out-Fitted (List ℕ) denominators_step (roll-Fitted x)
       ∙ ap (λ (y : Fitted-F Fitted). denominators_step (map-Fitted Fitted (List ℕ) denominators y))
-        (out-roll-Fitted x)
+      (out-roll-Fitted x)
 
   pub denominators-positive : (f : Fitted) → are_numerals f ≡ true → ArePositive (denominators f)
   denominators-positive = ind-Fitted IsGood (λ x y is h.

@@ -12,3 +12,5 @@ pub mod JoinLaws
 pub mod JoinLoops
 pub mod SumFacts
 pub mod ScaleSound
+pub mod TreeLengths
+pub mod ListLengths

@@ -76,15 +76,15 @@ module _ (l : ℕ) (t : Nodes) (is : IsTerm t) (p : ℕ) (h : p < length t) (m :
       → vs ≡ scaled_places ss 0 fs → value.Tuple vs ≡ scaled l t p f
   at_places fs vs q product made =
       ap value.Tuple made ∙ sym (ap (scaled_step l m ss) q
-          ∙ ap (scaled_level l m ss) (outs-Tuple fs)
-          ∙ ap (λ n. value.Tuple (scaled_parts n ss fs)) product) ∙ at_step
+      ∙ ap (scaled_level l m ss) (outs-Tuple fs)
+      ∙ ap (λ n. value.Tuple (scaled_parts n ss fs)) product) ∙ at_step
 
   pub at_parts : (fs : List Fitted) (vs : List Value) → f ≡ fitted.Tuple fs → (m ≡ Product → ⊥)
       → vs ≡ map (scale_at ss 0) fs → value.Tuple vs ≡ scaled l t p f
   at_parts fs vs q other made =
       ap value.Tuple made ∙ sym (ap (scaled_step l m ss) q
-          ∙ ap (scaled_level l m ss) (outs-Tuple fs) ∙ ap value.Tuple (other_parts m ss fs other))
-          ∙ at_step
+      ∙ ap (scaled_level l m ss) (outs-Tuple fs) ∙ ap value.Tuple (other_parts m ss fs other))
+      ∙ at_step
 
   pub at_inner : (k : ℕ) (g : Fitted) (v : Value) → f ≡ fitted.Inj k g → v ≡ scale_at ss k g
       → value.Inj k v ≡ scaled l t p f

@@ -40,7 +40,7 @@ module _ (l : ℕ) (bounded : l ≤ 2 ^ 40) where
   weight_within m weight.OverBound h = omega arith
   weight_within m (weight.Fraction n) h =
       let p = and_parts (nat_le 1 n.q)
-          (nat_le n.q (2 ^ 40) && nat_le (unsigned_abs n.p) (2 ^ 40)) h in
+      (nat_le n.q (2 ^ 40) && nat_le (unsigned_abs n.p) (2 ^ 40)) h in
       let q = and_parts (nat_le n.q (2 ^ 40)) (nat_le (unsigned_abs n.p) (2 ^ 40)) p.1 in
       by (leb-true (unsigned_abs n.p) (2 ^ 40) q.1) (has_fractions m)
     where
@@ -49,9 +49,9 @@ module _ (l : ℕ) (bounded : l ≤ 2 ^ 40) where
       by small true =
           let quotient : l / n.q ≤ 2 ^ 40 = omega (arith, div-le_self l n.q, bounded) in
           let product : unsigned_abs n.p * (l / n.q) ≤ 2 ^ 40 * 2 ^ 40 =
-              mul-le-mul small quotient in
+          mul-le-mul small quotient in
           let same : unsigned_abs (n.p *ℤ pos (l / n.q)) ≡ unsigned_abs n.p * (l / n.q) =
-              unsigned_abs-mul n.p (pos (l / n.q)) in
+          unsigned_abs-mul n.p (pos (l / n.q)) in
           subst (λ k. k ≤ weight_limit) (sym same) product
       by small false = omega (arith, small)
 
@@ -65,7 +65,7 @@ module _ (l : ℕ) (bounded : l ≤ 2 ^ 40) where
       let here = weight_within m e.1 all.0 in
       let rest = sum_within m s es all.1 in
       let sum = sum_by-cons (λ (w : Value × ℤ). unsigned_abs w.1) (s e.0, scaled_weight l m e.1)
-          (scaled_entries l m s es) in
+      (scaled_entries l m s es) in
       omega (arith, here, rest, sum)
 
   abbrev IsGood : Fitted → Type 0
@@ -75,14 +75,15 @@ module _ (l : ℕ) (bounded : l ≤ 2 ^ 40) where
   good_out :
       (f : Fitted) (x : Fitted-F Fitted) → out-Fitted f ≡ x → IsGood f
       → (numerals_step (map-Fitted Fitted Bool are_numerals x) ≡ true)
-        × (lists_step list_limit (map-Fitted Fitted Bool (lists_within list_limit) x) ≡ true)
-  good_out f x e h =
-      (sym (fold_out-Fitted Bool numerals_step f
-          ∙ ap (λ (y : Fitted-F Fitted). numerals_step (map-Fitted Fitted Bool are_numerals y)) e)
-          ∙ h.0,
-       sym (fold_out-Fitted Bool (lists_step list_limit) f
-           ∙ ap (λ (y : Fitted-F Fitted). lists_step list_limit
-           (map-Fitted Fitted Bool (lists_within list_limit) y)) e) ∙ h.1)
+      × (lists_step list_limit (map-Fitted Fitted Bool (lists_within list_limit) x) ≡ true)
+  good_out f x e h = (
+    sym (fold_out-Fitted Bool numerals_step f
+        ∙ ap (λ (y : Fitted-F Fitted). numerals_step (map-Fitted Fitted Bool are_numerals y)) e)
+        ∙ h.0,
+    sym (fold_out-Fitted Bool (lists_step list_limit) f
+        ∙ ap (λ (y : Fitted-F Fitted). lists_step list_limit
+        (map-Fitted Fitted Bool (lists_within list_limit) y)) e) ∙ h.1,
+  )
 
   parts_good :
       (fs : List Fitted) → list_all (λ b. b) (map are_numerals fs) ≡ true
@@ -91,7 +92,7 @@ module _ (l : ℕ) (bounded : l ≤ 2 ^ 40) where
   parts_good (f ∷ fs) h k =
       let p = and_parts (are_numerals f) (list_all (λ b. b) (map are_numerals fs)) h in
       let q = and_parts (lists_within list_limit f)
-          (list_all (λ b. b) (map (lists_within list_limit) fs)) k in
+      (list_all (λ b. b) (map (lists_within list_limit) fs)) k in
       ((p.0, q.0), parts_good fs p.1 q.1)
 
   abbrev numbered : List (Fitted × Weight) → List (Bool × Weight)
@@ -107,7 +108,7 @@ module _ (l : ℕ) (bounded : l ≤ 2 ^ 40) where
   entries_good [] h k = (tt, tt)
   entries_good (e ∷ es) h k =
       let p = and_parts (are_numerals e.0 && is_numeral e.1)
-          (list_all (λ e. e.0 && is_numeral e.1) (numbered es)) h in
+      (list_all (λ e. e.0 && is_numeral e.1) (numbered es)) h in
       let q = and_parts (lists_within list_limit e.0) (list_all (λ e. e.0) (short es)) k in
       let here = and_parts (are_numerals e.0) (is_numeral e.1) p.0 in
       let rest = entries_good es p.1 q.1 in
@@ -142,7 +143,7 @@ module _ (l : ℕ) (bounded : l ≤ 2 ^ 40) where
     list_small [] h = refl
     list_small (f ∷ fs) h =
         and_from (is_within sum_limit (scale_at ss 0 f))
-            (list_all (is_within sum_limit) (map (scale_at ss 0) fs))
+        (list_all (is_within sum_limit) (map (scale_at ss 0) fs))
         ((at_small ss 0 all).small f h.0) (list_small fs h.1)
 
     places_small : (k : ℕ) (fs : List Fitted) → AllByRecursion IsGood fs
@@ -150,7 +151,7 @@ module _ (l : ℕ) (bounded : l ≤ 2 ^ 40) where
     places_small k [] h = refl
     places_small k (f ∷ fs) h =
         and_from (is_within sum_limit (scale_at ss k f))
-            (list_all (is_within sum_limit) (scaled_places ss (k + 1) fs))
+        (list_all (is_within sum_limit) (scaled_places ss (k + 1) fs))
         ((at_small ss k all).small f h.0) (places_small (k + 1) fs h.1)
 
     tuple_small : (m : Node) (fs : List Fitted) → AllByRecursion IsGood fs
@@ -173,7 +174,7 @@ module _ (l : ℕ) (bounded : l ≤ 2 ^ 40) where
     entries_small m [] h = refl
     entries_small m (e ∷ es) h =
         and_from (is_within sum_limit (scale_at ss 0 e.0))
-            (list_all (λ e. is_within sum_limit e.0) (scaled_entries l m (scale_at ss 0) es))
+        (list_all (λ e. is_within sum_limit e.0) (scaled_entries l m (scale_at ss 0) es))
         ((at_small ss 0 all).small e.0 h.0) (entries_small m es h.1)
 
     level_small : (m : Node) (f : Fitted) (x : Fitted-F Fitted) → out-Fitted f ≡ x → IsGood f
@@ -186,7 +187,7 @@ module _ (l : ℕ) (bounded : l ≤ 2 ^ 40) where
         let w = good_out f (Fitted-F.Tuple fs) o h in
         let vs : List Value = scaled_parts m ss fs in
         within_tuple sum_limit (value.Tuple vs) vs (outs-Tuple vs)
-            (tuple_small m fs (parts_good fs w.0 w.1))
+        (tuple_small m fs (parts_good fs w.0 w.1))
     level_small m f (Fitted-F.Inj k g) o h =
         let w = good_out f (Fitted-F.Inj k g) o h in
         let v : Value = scale_at ss k g in
@@ -199,7 +200,7 @@ module _ (l : ℕ) (bounded : l ≤ 2 ^ 40) where
         let w = good_out f (Fitted-F.Weights es) o h in
         let vs : List (Value × ℤ) = scaled_entries l m (scale_at ss 0) es in
         let p = and_parts (list_all (λ e. e.0) (short es))
-            (nat_le (length (short es)) list_limit) w.1 in
+        (nat_le (length (short es)) list_limit) w.1 in
         let good = entries_good es w.0 p.0 in
         let count = leb-true (length (short es)) list_limit p.1 in
         let sum = sum_within m (scale_at ss 0) es good.1 in
@@ -216,4 +217,4 @@ pub scaled-within :
     → lists_within (2 ^ 26) f ≡ true → is_within (2 ^ 106) (scaled l t p f) ≡ true
 scaled-within l bounded t p f h k =
     (fold-all (IsSmall l bounded) no_scale (scaled_step l) (none_small l bounded)
-        (step_small l bounded) t p).small f (h, k)
+    (step_small l bounded) t p).small f (h, k)

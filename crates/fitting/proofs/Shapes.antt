@@ -28,10 +28,10 @@ pub record IsTupleOf (gs : List Fit) (f : Fitted) : Type 0 where
 pub product-ok : (gs : List Fit) (u : Tree) (f : Fitted) → product_fit gs u ≡ Ok f → IsTupleOf gs f
 product-ok gs u f e =
     let counted : List Tree → Found Fitted = λ us.
-        demands (length us == length gs) WrongCount (made fitted.Tuple (places gs 0 us)) in
+    demands (length us == length gs) WrongCount (made fitted.Tuple (places gs 0 us)) in
     let (us, e1, f1) = needs-ok (parts u) WrongShape counted f e in
     let (e2, f2) =
-        demands-ok (length us == length gs) WrongCount (made fitted.Tuple (places gs 0 us)) f f1 in
+    demands-ok (length us == length gs) WrongCount (made fitted.Tuple (places gs 0 us)) f f1 in
     let (fs, e3, same) = made-ok fitted.Tuple (places gs 0 us) f f2 in
     record {
       trees = us;
@@ -50,7 +50,7 @@ places-good gs P good k [] fs e =
     subst (λ (l : List Fitted). AllByRecursion P l) (ok_same [] fs e) tt
 places-good gs P good k (u ∷ us) fs e =
     let (f, e1, f1) =
-        found-ok (fit_at gs k u) (λ v. made (λ vs. v ∷ vs) (places gs (k + 1) us)) fs e in
+    found-ok (fit_at gs k u) (λ v. made (λ vs. v ∷ vs) (places gs (k + 1) us)) fs e in
     let (hs, e2, is) = made-ok (λ (vs : List Fitted). f ∷ vs) (places gs (k + 1) us) fs f1 in
     subst (λ (l : List Fitted). AllByRecursion P l) is
     (good k u f e1, places-good gs P good (k + 1) us hs e2)
@@ -67,8 +67,8 @@ pub sum-ok : (gs : List Fit) (u : Tree) (f : Fitted) → sum_fit gs u ≡ Ok f �
 sum-ok gs u f e =
     let placed : List ℕ × Tree → ℕ → Found Fitted = λ b k. made (fitted.Inj k) (fit_at gs k b.1) in
     let (b, e1, f1) =
-        needs-ok (branch u) WrongShape
-        (λ b. needs (number_below (length gs) b.0) BadIndex (placed b)) f e in
+    needs-ok (branch u) WrongShape
+    (λ b. needs (number_below (length gs) b.0) BadIndex (placed b)) f e in
     let (k, e2, f2) = needs-ok (number_below (length gs) b.0) BadIndex (placed b) f f1 in
     let (h, e3, same) = made-ok (fitted.Inj k) (fit_at gs k b.1) f f2 in
     record { index = k; tree = b.1; value = h; read = e3; is = same }
@@ -88,15 +88,15 @@ module _ (gs : List Fit) (P : Fitted → Type 0)
   power-ok labels u f e =
       let (es, e1, f1) = needs-ok (entries u) WrongShape (power_of labels (fit_at gs 0)) f e in
       let full : Slots → Found Fitted = λ slots.
-          needs (all_held slots) MissingKey (λ vs. Ok (fitted.Tuple vs)) in
+      needs (all_held slots) MissingKey (λ vs. Ok (fitted.Tuple vs)) in
       let read : Found Slots = filled labels (fit_at gs 0) (empty_slots labels) es in
       let (e2, f2) = demands-ok (list_all is_keyed es) WrongShape (found read full) f f1 in
       let (slots, e3, f3) = found-ok read full f f2 in
       let (fs, e4, f4) =
-          needs-ok (all_held slots) MissingKey (λ vs. Ok (fitted.Tuple vs)) f f3 in
+      needs-ok (all_held slots) MissingKey (λ vs. Ok (fitted.Tuple vs)) f f3 in
       let kept =
-          filled-good labels (fit_at gs 0) P good es (empty_slots labels) slots
-          (empty-good P (label_count labels)) e3 in
+      filled-good labels (fit_at gs 0) P good es (empty_slots labels) slots
+      (empty-good P (label_count labels)) e3 in
       record {
         values = fs;
         all = (held-good P slots fs kept.0 e4).0;
@@ -130,7 +130,7 @@ module _ (gs : List Fit) (P : Fitted → Type 0)
       let (es, e1, f1) = needs-ok (entries u) WrongShape (weights_of m (fit_at gs 0)) f e in
       let read : Found (List (Fitted × Weight)) = each (entry_fit m (fit_at gs 0)) es in
       let (e2, f2) =
-          demands-ok (list_all (has_weight m) es) WrongShape (made fitted.Weights read) f f1 in
+      demands-ok (list_all (has_weight m) es) WrongShape (made fitted.Weights read) f f1 in
       let (fs, e3, same) = made-ok fitted.Weights read f f2 in
       record {
         pairs = fs;
@@ -144,9 +144,9 @@ module _ (gs : List Fit) (P : Fitted → Type 0)
           → P w.0 × Q w.1
       entry e w q =
           let (h, e1, f1) =
-              found-ok (fit_at gs 0 (held e))
-              (λ v. made (λ w. (v, w)) (weight_fit m (weight_tree e))) w q in
+          found-ok (fit_at gs 0 (held e))
+          (λ v. made (λ w. (v, w)) (weight_fit m (weight_tree e))) w q in
           let (k, e2, same) =
-              made-ok (λ (c : Weight). (h, c)) (weight_fit m (weight_tree e)) w f1 in
+          made-ok (λ (c : Weight). (h, c)) (weight_fit m (weight_tree e)) w f1 in
           subst (λ (c : Fitted × Weight). P c.0 × Q c.1) same
           (good (held e) h e1, weighs (weight_tree e) k e2)

@@ -57,7 +57,7 @@ pub distribution-asks :
     → r ≡ entries_hold (check_at fs 0) ws → r ≡ sums_step are_any l m fs v
 distribution-asks l fs m is v es ws here there b r sums holds rest =
     let sum : int_eq (joint_weight Distribution (entries v)) (pos l) ≡ true =
-        ap (λ us. int_eq (joint_weight Distribution us) (pos l)) (sym here) ∙ sym sums ∙ holds in
+    ap (λ us. int_eq (joint_weight Distribution us) (pos l)) (sym here) ∙ sym sums ∙ holds in
     rest ∙ ap (entries_hold (check_at fs 0)) there
     ∙ sym (ap (λ o. o && entries_hold (check_at fs 0) (entries v)) sum)
     ∙ ap (λ n. sums_step are_any l n fs v) (sym is)

@@ -116,8 +116,8 @@ number_fit u =
     needs (word u) WrongShape
     (λ w. demands (is_digits w) NotALabel
     (Ok (if nat_le (number_of w) number_limit
-        then fitted.Label (number_of w)
-        else fitted.OverBound)))
+    then fitted.Label (number_of w)
+    else fitted.OverBound)))
 
 -- a tuple with a part for each place
 abbrev pub product_fit : List Fit → Fit

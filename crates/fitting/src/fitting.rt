@@ -378,10 +378,7 @@ fn is_free(slots: &[Option<Fitted>], k: u32) -> bool
 }
 
 /// What all slots hold, if none is empty.
-fn held_in_all(
-    alloc: Global,
-    slots: Vec<Option<Fitted>>,
-) -> Result<Option<Vec<Fitted>>, AllocError>
+fn held_in_all(alloc: Global, slots: Vec<Option<Fitted>>) -> Result<Option<Vec<Fitted>>, AllocError>
     ensures { IfOk result (λ held. MatchOption held (all_held slots.items ≡ None)
         (λ values. all_held slots.items ≡ Some values.items)) }
 {

@@ -11,9 +11,9 @@ pub join_all-returns-in_err-join_all-in-Weights : goal.join_all-returns-in_err-j
 join_all-returns-in_err-join_all-in-Weights t c =
     let es : List (Fitted × Weight) = c.as_slice-value-items.result.now in
     let all : joined c.args.l (entry_denominators es)
-        ≡ joined c.args.l (denominators c.args.fitted.now) =
-        ap (joined c.args.l) (sym (weights-denominators c.args.fitted.now es
-            c.loop-value.invariant.all)) in
+    ≡ joined c.args.l (denominators c.args.fitted.now) =
+    ap (joined c.args.l) (sym (weights-denominators c.args.fitted.now es
+    c.loop-value.invariant.all)) in
     c.from_residual.ensures
     ∙ sym (entry-stops es c.loop-value.value-index c.loop-value-item.result c.loop-value.so_far
     (joined c.args.l (entry_denominators es)) c.loop-value-test.true c.loop-value-item.is
@@ -24,9 +24,9 @@ pub join_all-returns-in_err-so_far-in-Weights : goal.join_all-returns-in_err-so_
 join_all-returns-in_err-so_far-in-Weights t c =
     let es : List (Fitted × Weight) = c.as_slice-value-items.result.now in
     let all : joined c.args.l (entry_denominators es)
-        ≡ joined c.args.l (denominators c.args.fitted.now) =
-        ap (joined c.args.l) (sym (weights-denominators c.args.fitted.now es
-            c.loop-value.invariant.all)) in
+    ≡ joined c.args.l (denominators c.args.fitted.now) =
+    ap (joined c.args.l) (sym (weights-denominators c.args.fitted.now es
+    c.loop-value.invariant.all)) in
     c.from_residual-in_err-so_far-in-Weights.ensures
     ∙ sym (entry-stops-late es c.loop-value.value-index c.loop-value-item.result c.loop-value.so_far
     (joined c.args.l (entry_denominators es)) c.loop-value-test.true c.loop-value-item.is
@@ -54,7 +54,7 @@ join_all-returns-after-loop-value t c =
     sym (entries-end es c.loop-value.value-index c.loop-value.so_far
     (joined c.args.l (entry_denominators es)) past c.loop-value.invariant.rest)
     ∙ ap (joined c.args.l) (sym (weights-denominators c.args.fitted.now es
-        c.loop-value.invariant.all))
+    c.loop-value.invariant.all))
 
 pub join_each-returns-in_err-so_far : goal.join_each-returns-in_err-so_far
 join_each-returns-in_err-so_far t c =

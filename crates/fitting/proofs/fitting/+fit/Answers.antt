@@ -33,30 +33,30 @@ fit_at-returns-in-Bag t c = fit-at c.args.term.now c.node-node.ensures.term c.ar
 pub fit_child-fit_at-requires : goal.fit_child-fit_at-requires
 fit_child-fit_at-requires t c =
     let e : slice_get (children_at c.args.term.now c.args.p) c.args.k ≡ Some c.in-Some.child.now =
-        ap (λ qs. slice_get qs c.args.k) (sym c.children.ensures.children)
-        ∙ sym c.in-Some.ensures in
+    ap (λ qs. slice_get qs c.args.k) (sym c.children.ensures.children)
+    ∙ sym c.in-Some.ensures in
     let w : (c.args.p < c.in-Some.child.now) × (c.in-Some.child.now < length c.args.term.now) =
-        child_later c.args.term.now c.children.ensures.term c.args.p c.args.k c.in-Some.child.now
-        e in
+    child_later c.args.term.now c.children.ensures.term c.args.p c.args.k c.in-Some.child.now
+    e in
     (search rules, w.1)
 
 pub fit_child-returns-in-Some : goal.fit_child-returns-in-Some
 fit_child-returns-in-Some t c =
     let e : slice_get (children_at c.args.term.now c.args.p) c.args.k ≡ Some c.in-Some.child.now =
-        ap (λ qs. slice_get qs c.args.k) (sym c.children.ensures.children)
-        ∙ sym c.in-Some.ensures in
+    ap (λ qs. slice_get qs c.args.k) (sym c.children.ensures.children)
+    ∙ sym c.in-Some.ensures in
     subst (λ (f : Fit). Gives c.fit_at.result (f c.args.tree.now))
-        (sym (fit_found (fitting c.args.term.now c.args.names.now)
-        (children_at c.args.term.now c.args.p) c.args.k c.in-Some.child.now e)) c.fit_at.ensures
+    (sym (fit_found (fitting c.args.term.now c.args.names.now)
+    (children_at c.args.term.now c.args.p) c.args.k c.in-Some.child.now e)) c.fit_at.ensures
 
 pub fit_child-returns-in-None : goal.fit_child-returns-in-None
 fit_child-returns-in-None t c =
     let e : slice_get (children_at c.args.term.now c.args.p) c.args.k ≡ None =
-        ap (λ qs. slice_get qs c.args.k) (sym c.children.ensures.children)
-        ∙ sym c.in-None.ensures in
+    ap (λ qs. slice_get qs c.args.k) (sym c.children.ensures.children)
+    ∙ sym c.in-None.ensures in
     ap (λ (f : Fit). f c.args.tree.now)
-        (fit_none (fitting c.args.term.now c.args.names.now)
-        (children_at c.args.term.now c.args.p) c.args.k e)
+    (fit_none (fitting c.args.term.now c.args.names.now)
+    (children_at c.args.term.now c.args.p) c.args.k e)
 
 pub sum-overflow_cast-count : goal.sum-overflow_cast-count
 sum-overflow_cast-count t c = omega (arith, c.children.ensures.few)

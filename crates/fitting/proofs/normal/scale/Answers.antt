@@ -37,7 +37,7 @@ relabel-requires-clause-bounded c =
 the_form :
     (c : Joined-value-3)
     → IsRelabelledAt c.args.term.now c.args.own.now 0
-      (scaled c.args.l c.args.term.now 0 c.args.fitted.now) c.in_ok-relabel.field-0
+    (scaled c.args.l c.args.term.now 0 c.args.fitted.now) c.in_ok-relabel.field-0
 the_form c =
     subst
     (λ (v : Value). IsRelabelledAt c.args.term.now c.args.own.now 0 v c.in_ok-relabel.field-0)
@@ -64,8 +64,8 @@ returns-clause-in_range c =
 pub returns-clause-weighted : goal.returns-clause-weighted
 returns-clause-weighted c =
     let sums : has_sums c.args.l c.args.term.now 0 c.args.fitted.now ≡ true =
-        subst (λ (v : Value). sums_hold are_any c.args.l c.args.term.now 0 v ≡ true)
-        c.in_ok-value.ensures (sym c.sums_at.ensures ∙ c.if-not-sums_at.false) in
+    subst (λ (v : Value). sums_hold are_any c.args.l c.args.term.now 0 v ≡ true)
+    c.in_ok-value.ensures (sym c.sums_at.ensures ∙ c.if-not-sums_at.false) in
     known.form-weighted c.args.l c.requires.bounded c.args.term.now c.args.own.now c.requires.own
     c.args.fitted.now c.requires.fitted c.requires.not_over c.requires.small
     c.in_ok-relabel.field-0 (the_form c) sums

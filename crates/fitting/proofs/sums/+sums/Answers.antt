@@ -13,10 +13,14 @@ use Rattle.fitting.proofs.SumFacts.{check_found, check_none, sums-at, distributi
 use Rattle.fitting.proofs.sums.+sums.Goals as goal
 
 pub sums_at-sums_in_places-requires : goal.sums_at-sums_in_places-requires
-sums_at-sums_in_places-requires t c =
-    (search rules, (c.requires.node,
+sums_at-sums_in_places-requires t c = (
+  search rules,
+  (
+    c.requires.node,
     subst (λ (vs : List Value). list_all is_bounded vs ≡ true) (sym c.parts.ensures)
-    (parts_within (2 ^ 126) c.args.value.now c.requires.bounded)))
+        (parts_within (2 ^ 126) c.args.value.now c.requires.bounded),
+  ),
+)
 
 pub sums_at-is_sum-requires : goal.sums_at-is_sum-requires
 sums_at-is_sum-requires t c = record {
@@ -27,24 +31,36 @@ sums_at-is_sum-requires t c = record {
 }
 
 pub sums_at-sums_in_entries-requires : goal.sums_at-sums_in_entries-requires
-sums_at-sums_in_entries-requires t c =
-    (search rules, (c.requires.node,
+sums_at-sums_in_entries-requires t c = (
+  search rules,
+  (
+    c.requires.node,
     subst (λ (es : List (Value × ℤ)). list_all (λ e. is_bounded e.0) es ≡ true)
-    (sym c.entries-then-is_sum.ensures)
-    (entries_within (2 ^ 126) c.args.value.now c.requires.bounded).0))
+        (sym c.entries-then-is_sum.ensures)
+        (entries_within (2 ^ 126) c.args.value.now c.requires.bounded).0,
+  ),
+)
 
 pub sums_at-sums_in_entries-requires-in-Bag : goal.sums_at-sums_in_entries-requires-in-Bag
-sums_at-sums_in_entries-requires-in-Bag t c =
-    (search rules, (c.requires.node,
+sums_at-sums_in_entries-requires-in-Bag t c = (
+  search rules,
+  (
+    c.requires.node,
     subst (λ (es : List (Value × ℤ)). list_all (λ e. is_bounded e.0) es ≡ true)
-    (sym c.entries-in-Bag.ensures)
-    (entries_within (2 ^ 126) c.args.value.now c.requires.bounded).0))
+        (sym c.entries-in-Bag.ensures)
+        (entries_within (2 ^ 126) c.args.value.now c.requires.bounded).0,
+  ),
+)
 
 pub sums_at-sums_in_all-requires : goal.sums_at-sums_in_all-requires
-sums_at-sums_in_all-requires t c =
-    (search rules, (c.requires.node,
+sums_at-sums_in_all-requires t c = (
+  search rules,
+  (
+    c.requires.node,
     subst (λ (vs : List Value). list_all is_bounded vs ≡ true) (sym c.parts-in-Power.ensures)
-    (parts_within (2 ^ 126) c.args.value.now c.requires.bounded)))
+        (parts_within (2 ^ 126) c.args.value.now c.requires.bounded),
+  ),
+)
 
 pub sums_at-returns-in-Product : goal.sums_at-returns-in-Product
 sums_at-returns-in-Product t c =
@@ -85,18 +101,18 @@ sums_at-returns-in-Power t c =
 pub sums_at_child-sums_at-requires : goal.sums_at_child-sums_at-requires
 sums_at_child-sums_at-requires t c =
     let e : slice_get (children_at c.args.term.now c.args.p) c.args.k ≡ Some c.in-Some.child.now =
-        ap (λ qs. slice_get qs c.args.k) (sym c.children.ensures.children)
-        ∙ sym c.in-Some.ensures in
+    ap (λ qs. slice_get qs c.args.k) (sym c.children.ensures.children)
+    ∙ sym c.in-Some.ensures in
     let w : (c.args.p < c.in-Some.child.now) × (c.in-Some.child.now < length c.args.term.now) =
-        child_later c.args.term.now c.children.ensures.term c.args.p c.args.k
-        c.in-Some.child.now e in
+    child_later c.args.term.now c.children.ensures.term c.args.p c.args.k
+    c.in-Some.child.now e in
     (search rules, (w.1, c.requires.bounded))
 
 pub sums_at_child-returns-in-Some : goal.sums_at_child-returns-in-Some
 sums_at_child-returns-in-Some t c =
     let e : slice_get (children_at c.args.term.now c.args.p) c.args.k ≡ Some c.in-Some.child.now =
-        ap (λ qs. slice_get qs c.args.k) (sym c.children.ensures.children)
-        ∙ sym c.in-Some.ensures in
+    ap (λ qs. slice_get qs c.args.k) (sym c.children.ensures.children)
+    ∙ sym c.in-Some.ensures in
     c.sums_at.ensures
     ∙ sym (ap (λ (f : Check). f c.args.value.now)
     (check_found (sums_hold are_any c.args.l c.args.term.now)
@@ -105,8 +121,8 @@ sums_at_child-returns-in-Some t c =
 pub sums_at_child-returns-in-None : goal.sums_at_child-returns-in-None
 sums_at_child-returns-in-None t c =
     let e : slice_get (children_at c.args.term.now c.args.p) c.args.k ≡ None =
-        ap (λ qs. slice_get qs c.args.k) (sym c.children.ensures.children)
-        ∙ sym c.in-None.ensures in
+    ap (λ qs. slice_get qs c.args.k) (sym c.children.ensures.children)
+    ∙ sym c.in-None.ensures in
     sym (ap (λ (f : Check). f c.args.value.now)
     (check_none (sums_hold are_any c.args.l c.args.term.now)
     (children_at c.args.term.now c.args.p) c.args.k e))
