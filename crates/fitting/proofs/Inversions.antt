@@ -54,8 +54,8 @@ abbrev pub SlotHolds : (Fitted → Type 0) → Option Fitted → Type 0
 SlotHolds P None = Unit {0}
 SlotHolds P (Some v) = P v
 
-pub set-good : {X : Type 0} (Q : X → Type 0) (xs : List X) (k : ℕ) (y : X) → AllByRecursion Q xs → Q y
-    → AllByRecursion Q (slice_set xs k y)
+pub set-good : {X : Type 0} (Q : X → Type 0) (xs : List X) (k : ℕ) (y : X)
+    → AllByRecursion Q xs → Q y → AllByRecursion Q (slice_set xs k y)
 set-good Q [] k y all h = tt
 set-good Q (x ∷ xs) zero y all h = (h, all.1)
 set-good Q (x ∷ xs) (suc k) y all h = (all.0, set-good Q xs k y all.1 h)

@@ -1,4 +1,5 @@
--- The common denominator that is computed is the least common multiple, where it is within the limit.
+-- The common denominator that is computed is the least common multiple, where it is within the
+-- limit.
 use Rattle.std.proofs.Common.{◌≡◌, ◌↔◌, ℕ, zero, suc, ◌+◌, ◌*◌, ◌/◌, ◌<◌, ◌≤◌, Bool, true, false, ◌&&◌, List, [], ◌∷◌, ◌++◌, length, map, drop, get_or, drop_of_length-le, Option, Some, None, refl, sym, ap, ◌∙◌, subst, true≢false, arith}
 use Rattle.std.specs.Prelude.{nat_le, if◌then◌else◌, option_and_then, IfSome, IsSome, unsigned_abs}
 use Rattle.std.specs.Int.{◌∣◌}

@@ -14,3 +14,4 @@ pub mod SumFacts
 pub mod ScaleSound
 pub mod TreeLengths
 pub mod ListLengths
+pub mod ScaledFractions

@@ -22,7 +22,7 @@ use Rattle.fitting.specs.declared.fitted.Weight.{Weight}
 use Rattle.fitting.specs.Levels.{word, parts, branch, entries, held, key, weight_tree}
 use Rattle.fitting.specs.Fitting.{Found, Fit, needs, demands, found, made, no_fit, fit_at, each, places, state_fit, label_fit, number_fit, number_limit, product_fit, sum_fit, power_fit, power_of, is_keyed, is_free, filled, all_held, empty_slots, Slots, set_fit, set_of, is_alone, weights_fit, weights_of, has_weight, entry_fit, weight_fit, fit_step, fitting}
 use Rattle.fitting.specs.Scaling.{lists_step, lists_within}
-use Rattle.fitting.specs.Lengths.{ListsAreShort}
+use Rattle.fitting.specs.Laws.{ListsAreShort}
 use Rattle.fitting.proofs.Inversions.{ok_same, err_ok, needs-ok, demands-ok, found-ok, made-ok, SlotHolds, set-good, held-good, empty-good}
 use Rattle.fitting.proofs.TreeLengths.{marks-few, IsInside, IsEntryInside, inside-opened}
 

@@ -188,6 +188,7 @@ abbrev pub set_of : Fit → List Entry → Found Fitted
 set_of f es =
     demands (list_all is_alone es) WrongShape (made fitted.Set (each (λ e. f (held e)) es))
 
+-- a set of values of the one child
 abbrev pub set_fit : List Fit → Fit
 set_fit fs u = needs (entries u) WrongShape (set_of (fit_at fs 0))
 
@@ -237,6 +238,7 @@ abbrev pub weights_of : Node → Fit → List Entry → Found Fitted
 weights_of m f es =
     demands (list_all (has_weight m) es) WrongShape (made fitted.Weights (each (entry_fit m f) es))
 
+-- a weight list over values of the one child
 abbrev pub weights_fit : Node → List Fit → Fit
 weights_fit m fs u = needs (entries u) WrongShape (weights_of m (fit_at fs 0))
 

@@ -27,6 +27,6 @@ mod weight;
 pub use fault::{FitFault, ScaleFault};
 pub use fitted::{Fitted, Weight};
 pub use fitting::fit;
-pub use laws::lists_are_short;
+pub use laws::{lists_are_short, weights_keep_their_fractions};
 pub use normal::{own_numbers, scale};
 pub use scaling::scaled_at;

@@ -87,7 +87,7 @@ fn place_among(words: &[&[u8]], word: &[u8]) -> Option<u32>
     ensures { result ≡ position (λ known. is_same_word word.now known.now) words.now }
 {
     match words.iter().position(|known| word == *known) {
-        Some(i) => Some(i as u32),
+        Some(place) => Some(place as u32),
         None => None,
     }
 }
