@@ -22,3 +22,4 @@ pub mod WordLoop
 pub mod ChainLoop
 pub mod DescentLaws
 pub mod TermReading
+pub mod FewChildren

@@ -1,11 +1,14 @@
 //! A table of distinct words.
-ghost use Rattle.std.specs.Prelude.{◌≡◌, ◌+◌, ◌<◌, ◌^◌, ◌↔◌, [], ◌∷◌, ◌++◌, length, slice_get, Some, None, IsTrue, IfOk, OnErr, if◌then◌else◌};
+ghost use Rattle.std.specs.Prelude.{◌≡◌, ◌+◌, ◌<◌, ◌≤◌, ◌^◌, ◌↔◌, [], ◌∷◌, ◌++◌, length, position, slice_get, Some, None, IsTrue, IfOk, OnErr, if◌then◌else◌};
 ghost use Rattle.file_cut.specs.Bytes.{IsName};
-ghost use Rattle.functor_terms.specs.Words.{place_of, AreNames};
+ghost use Rattle.functor_terms.specs.Words.{is_same_word, place_of, AreNames};
 
 use indexmap::IndexSet;
 use std::alloc::{AllocError, Global};
 use std::marker::Model;
+
+/// So many words are compared one by one, which takes less time than a hash.
+const FEW: usize = 8;
 
 /// Distinct words, numbered from 0 in the order in which they came. The words are lent, not copied.
 #[derive(Drop)]
@@ -46,6 +49,9 @@ impl<'a> Labels<'a> {
     pub fn number(&self, word: &[u8]) -> Option<u32>
         ensures { result ≡ place_of word.now self.now }
     {
+        if self.words.len() <= FEW {
+            return place_among(self.words.as_slice(), word);
+        }
         match self.words.get_index_of(&word) {
             Some(i) => Some(i as u32),
             None => None,
@@ -72,5 +78,16 @@ impl<'a> Labels<'a> {
         ensures unchanged { OnErr result (self.new ≡ self.old) }
     {
         Ok(self.words.insert(word)?)
+    }
+}
+
+/// The place of a word among few words, each of which is compared with it.
+fn place_among(words: &[&[u8]], word: &[u8]) -> Option<u32>
+    requires few { length words.now ≤ 8 }
+    ensures { result ≡ position (λ known. is_same_word word.now known.now) words.now }
+{
+    match words.iter().position(|known| word == *known) {
+        Some(place) => Some(place as u32),
+        None => None,
     }
 }

@@ -1,5 +1,5 @@
 //! Terms within the bounds.
-ghost use Rattle.std.specs.Prelude.{◌≡◌, ◌<◌, length, IfOk};
+ghost use Rattle.std.specs.Prelude.{◌≡◌, ◌<◌, ◌≤◌, length, IfOk};
 ghost use Rattle.functor_terms.specs.Terms.{node_at, children_at, placed, IsTerm};
 
 use crate::node::{Branch, Node};
@@ -39,10 +39,11 @@ impl<'a> Term<'a> {
         &self.nodes[p as usize].node
     }
 
-    /// The numbers of its children, in order.
+    /// The numbers of its children, in order: at most 256.
     pub fn children(&self, p: u32) -> &[u32]
         requires { p < length self.now }
         ensures children { result.now ≡ children_at self.now p }
+        ensures few { length result.now ≤ 256 }
         ensures term { IsTerm self.now }
     {
         self.nodes[p as usize].children.as_slice()

@@ -1,8 +1,6 @@
 pub mod Picks
 pub mod Composed
 pub mod QuotientLaws
-pub mod WeightSums
-pub mod KeptWeights
 pub mod Classes
 pub mod TextLaws
 pub mod LineTokens

@@ -14,7 +14,7 @@ use Rattle.typing.proofs.StableLaws.{each_of}
 use Rattle.quotient_writer.specs.Quotient.{numbers_from, picked_from, IsQuotient}
 use Rattle.quotient_writer.specs.Laws.{AreLabelled, AreWellFormed, AreApart}
 use Rattle.quotient_writer.proofs.Picks.{picked-new}
-use Rattle.quotient_writer.proofs.Composed.{count_from, count_at, kept}
+use Rattle.typing.proofs.OwnLabels.{count_from, count_at, kept}
 use Rattle.quotient_writer.proofs.QuotientLaws.{determined}
 
 count-length : (k m : ℕ) → length (count_from k m) ≡ m

@@ -16,3 +16,7 @@ pub mod RelabelLaws
 pub mod ReadyLaws
 pub mod RelabelSteps
 pub mod Within
+pub mod WeightSums
+pub mod WeightTests
+pub mod KeptWeights
+pub mod OwnLabels

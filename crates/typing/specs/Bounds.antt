@@ -2,9 +2,11 @@
 --
 -- is_within m v          == the absolute weights of each one structure in v sum to at most m
 -- is_bounded v           == they sum to at most 2^126, so that no sum of them wraps in 128 bits
+-- sums_hold pass d t p v == weight lists at bags and distributions pass a test, and the weights of
+--                           each distribution sum to d, the common denominator
 -- weights_hold d t p v   == weights at bags and distributions are above 0, and those of each
---                           distribution sum to d, the common denominator
-use Rattle.std.specs.Prelude.{ℕ, ℤ, pos, ◌^◌, Bool, true, ◌&&◌, nat_le, int_lt, unsigned_abs, List, [], ◌∷◌}
+--                           distribution sum to d
+use Rattle.std.specs.Prelude.{ℕ, ℤ, pos, ◌^◌, Bool, true, not, ◌&&◌, nat_le, int_lt, unsigned_abs, List, [], ◌∷◌}
 use Rattle.std.specs.List.{list_all, sum_by}
 use Rattle.std.specs.Ordering.{int_eq}
 use Rattle.functor_terms.specs.declared.node.Node.{Node}
@@ -40,6 +42,14 @@ is_bounded = is_within (2 ^ 126)
 abbrev pub are_positive : List (Value × ℤ) → Bool
 are_positive es = list_all (λ e. int_lt (pos 0) e.1) es
 
+-- no weight is below 0
+abbrev pub are_from_zero : List (Value × ℤ) → Bool
+are_from_zero es = list_all (λ e. not (int_lt e.1 (pos 0))) es
+
+-- any weights pass
+abbrev pub are_any : List (Value × ℤ) → Bool
+are_any es = true
+
 -- all weights, joined as the node joins them
 abbrev pub joint_weight : Node → List (Value × ℤ) → ℤ
 joint_weight m [] = pos 0
@@ -55,26 +65,36 @@ each_holds (f ∷ fs) (v ∷ vs) = f v && each_holds fs vs
 abbrev pub entries_hold : Check → List (Value × ℤ) → Bool
 entries_hold f es = list_all (λ e. f e.0) es
 
--- what a node asks of weights, by what its children ask; d is the common denominator
-abbrev pub weights_step : ℕ → Node → List Check → Check
-weights_step d State fs v = true
-weights_step d (Constant labels) fs v = true
-weights_step d Naturals fs v = true
-weights_step d Product fs v = each_holds fs (parts v)
-weights_step d Sum fs v = check_at fs (index v) (inner v)
-weights_step d (Power labels) fs v = list_all (check_at fs 0) (parts v)
-weights_step d Powerset fs v = list_all (check_at fs 0) (parts v)
-weights_step d Bag fs v = are_positive (entries v) && entries_hold (check_at fs 0) (entries v)
-weights_step d Distribution fs v =
-    are_positive (entries v) && int_eq (joint_weight Distribution (entries v)) (pos d)
+-- what a node asks of weights, by what its children ask; the lists of bags and distributions pass
+-- the test, and d is the common denominator
+abbrev pub sums_step : (List (Value × ℤ) → Bool) → ℕ → Node → List Check → Check
+sums_step pass d State fs v = true
+sums_step pass d (Constant labels) fs v = true
+sums_step pass d Naturals fs v = true
+sums_step pass d Product fs v = each_holds fs (parts v)
+sums_step pass d Sum fs v = check_at fs (index v) (inner v)
+sums_step pass d (Power labels) fs v = list_all (check_at fs 0) (parts v)
+sums_step pass d Powerset fs v = list_all (check_at fs 0) (parts v)
+sums_step pass d Bag fs v = pass (entries v) && entries_hold (check_at fs 0) (entries v)
+sums_step pass d Distribution fs v =
+    pass (entries v) && int_eq (joint_weight Distribution (entries v)) (pos d)
     && entries_hold (check_at fs 0) (entries v)
-weights_step d Integers fs v = entries_hold (check_at fs 0) (entries v)
-weights_step d Rationals fs v = entries_hold (check_at fs 0) (entries v)
+sums_step pass d Integers fs v = entries_hold (check_at fs 0) (entries v)
+sums_step pass d Rationals fs v = entries_hold (check_at fs 0) (entries v)
+
+-- the same where weights at bags and distributions are above 0
+abbrev pub weights_step : ℕ → Node → List Check → Check
+weights_step = sums_step are_positive
 
 -- any value passes
 abbrev pub any_weights : Check
 any_weights v = true
 
+-- weight lists at bags and distributions pass the test, and the weights of each distribution sum
+-- to d
+abbrev pub sums_hold : (List (Value × ℤ) → Bool) → ℕ → Nodes → ℕ → Check
+sums_hold pass d t p = fold any_weights (sums_step pass d) t p
+
 -- weights at bags and distributions are above 0, and those of each distribution sum to d
 abbrev pub weights_hold : ℕ → Nodes → ℕ → Check
-weights_hold d t p = fold any_weights (weights_step d) t p
+weights_hold = sums_hold are_positive

@@ -52,7 +52,7 @@ fn joined(
     ensures { IfOk result (λ new. new.items ≡ the_joined (child_form term.now p 0).compare
         (plus_at (node_at term.now p)) entries.items) }
 {
-    let mut new = Vec::new(alloc);
+    let mut new = Vec::with_capacity(alloc, entries.len())?;
     let mut rest = entries.into_iter();
     let Some(mut last) = rest.next() else {
         return Ok(new);

@@ -112,7 +112,7 @@ fn relabel_places(
     ensures { IfOk result (λ new. Zip3 (IsRelabelledAt term.now labels.now)
         (children_at term.now p) values.now new.items) }
 {
-    let mut new = Vec::new(alloc);
+    let mut new = Vec::with_capacity(alloc, values.len())?;
     let (mut children, mut rest) = (term.children(p), values);
     while let Some((child, more_children)) = children.split_first() {
         let Some((value, more)) = rest.split_first() else {
@@ -139,7 +139,7 @@ fn relabel_each(
     ensures { IfOk result (λ new.
         AllZip (IsRelabelledChild term.now labels.now p 0) values.now new.items) }
 {
-    let mut new = Vec::new(alloc);
+    let mut new = Vec::with_capacity(alloc, values.len())?;
     for value in values {
         new.push(relabel_child(alloc, term, p, 0, value, labels)?)?;
     }
@@ -161,7 +161,7 @@ fn relabel_entries(
     ensures { IfOk result (λ new.
         AllZip (IsRelabelledEntry term.now labels.now p) entries.now new.items) }
 {
-    let mut new = Vec::new(alloc);
+    let mut new = Vec::with_capacity(alloc, entries.len())?;
     for (value, weight) in entries {
         new.push((relabel_child(alloc, term, p, 0, value, labels)?, *weight))?;
     }

@@ -13,7 +13,7 @@ use Rattle.typing.proofs.StableLaws.{element}
 use Rattle.typing.proofs.RelabelSteps.{got}
 use Rattle.typing.proofs.Within.{each_bounded}
 use Rattle.quotient_writer.proofs.Picks.{picking_none, picking_old, picking_new, name_is_new, picked_all, end-one_each, end-fitting, end-normal, end-in_range, end-kept}
-use Rattle.quotient_writer.proofs.KeptWeights.{form-weights, form-within}
+use Rattle.typing.proofs.KeptWeights.{form-weights, form-within}
 use Rattle.quotient_writer.proofs.QuotientLaws.{made-IsQuotient}
 use Rattle.quotient_writer.proofs.making.quotient.Goals as goal
 use Rattle.quotient_writer.proofs.making.quotient.Goals.{then-labels-i+in_ok-add+in_ok-relabel+in_ok-push, else-labels-i}

@@ -97,7 +97,7 @@ relabel_places-loop-child-init t c =
     rw c.children-children.ensures.children record {
       later = children_later c.args.term.now c.children-children.ensures.term c.args.p;
       ready = c.requires.ready;
-      made = λ more z. subst (λ (rs : List Value). Zip3 (IsRelabelledAt c.args.term.now c.args.labels.now) (children_at c.args.term.now c.args.p) c.args.values.now (rs ++ more)) (sym c.new-new.ensures.items) z;
+      made = λ more z. subst (λ (rs : List Value). Zip3 (IsRelabelledAt c.args.term.now c.args.labels.now) (children_at c.args.term.now c.args.p) c.args.values.now (rs ++ more)) (sym c.in_ok-new.ensures.items) z;
     }
 
 pub relabel_places-returns : goal.relabel_places-returns

@@ -1,0 +1,17 @@
+pub mod FitFacts
+pub mod FitLoops
+pub mod Inversions
+pub mod FitSound
+pub mod ScaleLoops
+pub mod ScaleFacts
+pub mod Shapes
+pub mod FitNumerals
+pub mod ScaledBounds
+pub mod FitWeights
+pub mod JoinLaws
+pub mod JoinLoops
+pub mod SumFacts
+pub mod ScaleSound
+pub mod TreeLengths
+pub mod ListLengths
+pub mod ScaledFractions
