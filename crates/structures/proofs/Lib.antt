@@ -1,0 +1,11 @@
+mod AtChild
+mod Leaves
+mod ChildAt
+pub mod Arities
+pub mod Bounded
+mod GoodChildren
+mod Expands
+pub mod Chosen
+pub mod Sound
+mod Walked
+pub mod WalkEnds
