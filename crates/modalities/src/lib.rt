@@ -6,8 +6,10 @@
 #![tactic(auto)]
 
 mod order;
+mod sums;
 mod three;
 mod trit_list;
 
+pub use sums::Sums;
 pub use three::Three;
 pub use trit_list::TritList;
