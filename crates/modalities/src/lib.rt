@@ -9,6 +9,7 @@ mod order;
 mod sums;
 mod three;
 mod trit_list;
+mod weighted;
 
 pub use sums::Sums;
 pub use three::Three;
