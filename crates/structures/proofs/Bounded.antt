@@ -9,10 +9,10 @@ use Rattle.typing.specs.declared.value.Value.{Value, Value-F, out-Value, map-Val
 use Rattle.typing.specs.Values.{parts, inner, entries, parts_in, inner_in, entries_in}
 use Rattle.typing.specs.Bounds.{within_step, is_within, absolute_sum}
 
-abbrev layer_within : ℕ → Value-F Value → Bool
+abbrev pub layer_within : ℕ → Value-F Value → Bool
 layer_within m x = within_step m (map-Value Value Bool (is_within m) x)
 
-within_out : (m : ℕ) (v : Value) → is_within m v ≡ layer_within m (out-Value v)
+pub within_out : (m : ℕ) (v : Value) → is_within m v ≡ layer_within m (out-Value v)
 within_out m v = fold_out-Value Bool (within_step m) v
 
 pub parts_within : (m : ℕ) (v : Value) → is_within m v ≡ true → list_all (is_within m) (parts v) ≡ true
@@ -38,7 +38,7 @@ inner_within m v h = by (out-Value v) (sym (within_out m v) ∙ h)
     by (Value-F.Weights es) e = h
 
 -- entries with a test for their values
-abbrev tested : ℕ → List (Value × ℤ) → List (Bool × ℤ)
+abbrev pub tested : ℕ → List (Value × ℤ) → List (Bool × ℤ)
 tested m es = map (λ e. (is_within m e.0, e.1)) es
 
 pub entries_within : (m : ℕ) (v : Value) → is_within m v ≡ true → list_all (λ e. is_within m e.0) (entries v) ≡ true

@@ -1,5 +1,5 @@
-mod AtChild
-mod Leaves
+pub mod AtChild
+pub mod Leaves
 mod ChildAt
 pub mod Arities
 pub mod Bounded
