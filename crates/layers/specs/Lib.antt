@@ -4,3 +4,4 @@ pub mod Bits
 pub mod Packing
 pub mod Meanings
 pub mod LayerLaws
+pub mod Tables

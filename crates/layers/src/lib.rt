@@ -15,8 +15,10 @@ mod moving;
 mod packing;
 mod shape;
 mod starting;
+mod table;
 mod weight;
 
 pub use layers::Layers;
 pub use shape::{Class, Kind, LayerShape};
+pub use table::LayerTable;
 pub use weight::{LayerWeight, MarksWeight, Narrow, Opened, PlacesWeight, SumsWeight};

@@ -5,7 +5,7 @@ ghost use Rattle.layers.specs.Packing.{class_of};
 use polynomial_iface::Form;
 
 /// The kind of a layer.
-#[derive(Clone, Copy, Debug, PartialEq, Eq)]
+#[derive(Clone, Copy, Debug, PartialEq, Eq, Hash)]
 pub enum Kind {
     /// Finite sets.
     Set,
@@ -31,7 +31,7 @@ pub enum Class {
 }
 
 /// A shape: the functor node and the kind of layer.
-#[derive(Clone, Copy, Debug, PartialEq, Eq)]
+#[derive(Clone, Copy, Debug, PartialEq, Eq, Hash)]
 pub struct LayerShape {
     pub node: u32,
     pub kind: Kind,
