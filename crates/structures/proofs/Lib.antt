@@ -4,7 +4,7 @@ mod ChildAt
 pub mod Arities
 pub mod Bounded
 mod GoodChildren
-mod Expands
+pub mod Expands
 pub mod Chosen
 pub mod Sound
 mod Walked
