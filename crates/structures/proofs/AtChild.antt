@@ -56,5 +56,5 @@ pub count_within :
     length us ≡ length (at_child qs k us)
 count_within qs k us h =
     let one : length (at_node (slice_index qs k) us) ≡ length us =
-        length-map us (λ u. (slice_index qs k, u)) in
+    length-map us (λ u. (slice_index qs k, u)) in
     sym one ∙ sym (ap length (at_child-within qs k us h))

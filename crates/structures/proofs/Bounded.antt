@@ -1,10 +1,9 @@
 -- What is in bounds in a value is so in each part.
-use Rattle.std.proofs.Common.{◌≡◌, ℕ, ◌≤◌, ◌+◌, Bool, true, List, [], ◌∷◌, map, refl, sym, ap, ◌∙◌, subst, arith}
-use Rattle.std.specs.Prelude.{ℤ, nat_le, unsigned_abs}
+use Rattle.std.proofs.Common.{◌≡◌, ℕ, Bool, true, List, map, refl, sym, ◌∙◌}
+use Rattle.std.specs.Prelude.{ℤ, nat_le}
 use Rattle.std.specs.List.{list_all}
-use Rattle.std.proofs.lemmas.Bool.{and_parts, leb-true}
+use Rattle.std.proofs.lemmas.Bool.{and_parts}
 use Rattle.std.proofs.lemmas.List.Folds.{list_all-map}
-use Rattle.std.proofs.lemmas.List.Sums.{sum_by-cons}
 use Rattle.typing.specs.declared.value.Value.{Value, Value-F, out-Value, map-Value, fold_out-Value}
 use Rattle.typing.specs.Values.{parts, inner, entries, parts_in, inner_in, entries_in}
 use Rattle.typing.specs.Bounds.{within_step, is_within, absolute_sum}

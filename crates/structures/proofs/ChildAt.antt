@@ -1,5 +1,5 @@
 -- The child at a place, by the kind of node.
-use Rattle.std.proofs.Common.{◌≡◌, ℕ, zero, suc, ◌+◌, ◌<◌, min, List, [], ◌∷◌, length, map, Some, None, slice_get, refl, sym, ap, ◌∙◌, subst, ⊎_elim, arith}
+use Rattle.std.proofs.Common.{◌≡◌, ℕ, zero, suc, ◌<◌, min, List, [], ◌∷◌, length, map, Some, slice_get, ap, ◌∙◌, subst, ⊎_elim, arith}
 use Rattle.std.specs.Prelude.{slice_index}
 use Rattle.std.specs.List.{zip}
 use Rattle.std.specs.Option.{option_map}
@@ -42,7 +42,7 @@ module _ (qs : List ℕ) (k : ℕ) (us : List Value) (i : ℕ) (h : i < length (
   pub value_there : i < length us
   value_there =
       let one : length (at_node (slice_index qs k) us) ≡ length us =
-          length-map us (λ u. (slice_index qs k, u)) in
+      length-map us (λ u. (slice_index qs k, u)) in
       omega (arith, h, ap length (at_child-within qs k us node_there), one)
 
   pub child_there :

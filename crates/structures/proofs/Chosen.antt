@@ -1,6 +1,6 @@
 -- The edges of one structure among those of all: the sources are each structure's number, as often as
 -- edges leave it.
-use Rattle.std.proofs.Common.{◌≡◌, ℕ, zero, suc, ◌+◌, ◌<◌, ◌≤◌, Bool, true, false, List, [], ◌∷◌, ◌++◌, length, take, Some, None, slice_get, refl, sym, ap, ◌∙◌, subst, arith, append_assoc, length-append, All}
+use Rattle.std.proofs.Common.{◌≡◌, ℕ, zero, suc, ◌+◌, ◌<◌, ◌≤◌, Bool, true, false, List, [], ◌∷◌, ◌++◌, length, take, Some, None, slice_get, refl, sym, ap, ◌∙◌, arith, append_assoc, All}
 use Rattle.std.specs.Prelude.{slice_index_or, ◌==◌, if◌then◌else◌}
 use Rattle.std.specs.List.{flat_map, AllByRecursion, AllPairs}
 use Rattle.std.proofs.lemmas.Bool.Decides.{nat_tests}
@@ -43,7 +43,7 @@ module _ {X : Type 0} where
           (b : Bool) →
           chosen k (keys ++ more) (xs ++ ys) ≡ chosen k keys xs ++ chosen k more ys →
           (if b then x ∷ chosen k (keys ++ more) (xs ++ ys)
-            else chosen k (keys ++ more) (xs ++ ys))
+          else chosen k (keys ++ more) (xs ++ ys))
           ≡ (if b then x ∷ chosen k keys xs else chosen k keys xs) ++ chosen k more ys
       by true e = ap (λ l. x ∷ l) e
       by false e = e
@@ -99,7 +99,7 @@ module _ {X : Type 0} where
     pub chosen-block :
         (f : Place → List X) (first : ℕ) (places : List Place) →
         ((i : ℕ) (x : Place) → slice_get places i ≡ Some x →
-          length (f x) ≡ length (leaves_of t x)) →
+        length (f x) ≡ length (leaves_of t x)) →
         (y : ℕ) (x : Place) → slice_get places y ≡ Some x →
         chosen (first + y) (sources_from t first places) (flat_map f places) ≡ f x
     chosen-block f first [] h y x e = absurd (none_some x e)
@@ -123,7 +123,7 @@ module _ {X : Type 0} where
         (flat_map f zs) (one ∙ sym (length-repeated first count))
         ∙ ap (λ l. l ++ chosen (first + suc y) (sources_from t (first + 1) zs) (flat_map f zs))
         (chosen-other (first + suc y) first count (f z)
-          (other_test first (first + suc y) (omega arith)))
+        (other_test first (first + suc y) (omega arith)))
         ∙ ap (λ k. chosen k (sources_from t (first + 1) zs) (flat_map f zs)) (sym next)
         ∙ chosen-block f (first + 1) zs (λ i w. h (suc i) w) y x e
 
@@ -142,7 +142,7 @@ module _ (t : Nodes) where
       let here : List ℕ = repeated first (length (leaves_of t z)) in
       ap (λ l. here ++ l) (sources-snoc (first + 1) zs x)
       ∙ ap (λ k. here ++ (sources_from t (first + 1) zs
-        ++ repeated k (length (leaves_of t x)))) next
+      ++ repeated k (length (leaves_of t x)))) next
       ∙ sym (append_assoc here (sources_from t (first + 1) zs) _)
 
 pub take_next :

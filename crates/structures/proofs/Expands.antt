@@ -49,12 +49,12 @@ module _ (t : Nodes) (x : Place) (rest : List Place) (places : List Place) where
           (length places ∷ targets_of t (length places + 1) rest)
       by true =
           let same : length (places ++ []) ≡ length places =
-              omega (arith, length-append places []) in
+          omega (arith, length-append places []) in
           append_assoc targets _ _
           ∙ ap (λ n. targets ++ state_number ∷ targets_of t n rest) same
       by false =
           let more : length (places ++ x ∷ []) ≡ length places + 1 =
-              omega (arith, length-append places (x ∷ [])) in
+          omega (arith, length-append places (x ∷ [])) in
           append_assoc targets _ _
           ∙ ap (λ n. targets ++ length places ∷ targets_of t n rest) more
 
@@ -91,7 +91,7 @@ at_inside :
 at_inside n qs k us h =
     ⊎_elim
     (λ w. subst (AreInside n) (sym (at_child-within qs k us w))
-      (each_inside n (slice_index qs k) (λ u. u) (h k w) us))
+    (each_inside n (slice_index qs k) (λ u. u) (h k w) us))
     (λ w. subst (AreInside n) (sym (at_child-past qs k us w)) (none_inside n))
     (lt_or_le k (length qs))
 
@@ -103,8 +103,10 @@ children_inside t p v is h = by (node_at t p)
     below : (k : ℕ) → k < length (children_at t p) → slice_index (children_at t p) k < length t
     below k w =
         (term-later t is p (slice_index (children_at t p) k) (picked_in (children_at t p) k w)).1
+
     at : (k : ℕ) (us : List Value) → AreInside (length t) (at_child (children_at t p) k us)
     at k us = at_inside (length t) (children_at t p) k us below
+
     by : (m : Node) → AreInside (length t) (child_places m (children_at t p) p v)
     by State = one_inside (length t) (p, v) [] h (none_inside (length t))
     by (Constant labels) = none_inside (length t)
@@ -159,8 +161,8 @@ module _ (t : Nodes) (kids : List Place) (i : ℕ) (x : Place) (at : slice_get k
       ap (λ e. e ++ targets_of t (length after) rest)
       (pushed ∙ ap (λ n. targets ++ n ∷ []) target)
       ∙ ap (λ p. (targets
-          ++ cond (is_state_at t x) (unwrap_or (state x.1) 0) (length places) ∷ [])
-        ++ targets_of t (length p) rest) added
+      ++ cond (is_state_at t x) (unwrap_or (state x.1) 0) (length places) ∷ [])
+      ++ targets_of t (length p) rest) added
       ∙ step_targets t x rest places targets
       ∙ sym (ap (λ l. targets ++ targets_of t (length places) l) (drop_at kids i x at)) ∙ h
 

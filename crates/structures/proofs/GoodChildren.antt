@@ -1,6 +1,6 @@
 -- The children of a structure that fits: they fit, and their nodes are later.
-use Rattle.std.proofs.Common.{◌≡◌, ℕ, zero, suc, ◌+◌, ◌-◌, ◌<◌, ◌≤◌, Bool, true, false, not, cond, ◌&&◌, List, [], ◌∷◌, ◌++◌, length, map, Option, Some, None, slice_get, Contains, refl, sym, ap, ◌∙◌, subst, true≢false, ⊎_elim, inl, inr, arith}
-use Rattle.std.specs.Prelude.{◌⊎◌, ℤ, filter, slice_index, ◌==◌, if◌then◌else◌}
+use Rattle.std.proofs.Common.{◌≡◌, ℕ, zero, suc, ◌-◌, ◌<◌, Bool, true, false, List, [], ◌∷◌, length, map, Some, None, slice_get, Contains, refl, sym, ap, ◌∙◌, subst, true≢false, ⊎_elim, arith}
+use Rattle.std.specs.Prelude.{ℤ, slice_index, ◌==◌, if◌then◌else◌}
 use Rattle.std.specs.List.{list_all, zip}
 use Rattle.std.proofs.lemmas.Bool.{and_parts, and_from}
 use Rattle.std.proofs.lemmas.List.{length-map}
@@ -8,11 +8,10 @@ use Rattle.std.proofs.lemmas.List.Folds.{list_all-map}
 use Rattle.functor_terms.specs.declared.node.LabelSet.{LabelSet}
 use Rattle.functor_terms.specs.declared.node.Node.{Node}
 use Rattle.functor_terms.specs.declared.node.Node.TheVariants.{State, Constant, Naturals, Product, Sum, Power, Powerset, Bag, Distribution, Integers, Rationals}
-use Rattle.functor_terms.specs.Terms.{Nodes, IsTerm, node_at, children_at, label_count}
-use Rattle.functor_terms.proofs.Folds.{fold-at}
+use Rattle.functor_terms.specs.Terms.{label_count}
 use Rattle.typing.specs.declared.value.Value.{Value, Value-F, out-Value}
-use Rattle.typing.specs.Values.{index, inner, parts, entries, states_below, parts_in, inner_in, index_in, entries_in}
-use Rattle.typing.specs.Fits.{Check, fits, fits_level, fits_step, check_at, no_check, each_fits}
+use Rattle.typing.specs.Values.{index, inner, parts, entries, parts_in, inner_in, index_in, entries_in}
+use Rattle.typing.specs.Fits.{Check, fits_level, fits_step, check_at, each_fits}
 use Rattle.typing.specs.Layers.{Place, at_child, weighed, child_places}
 use Rattle.structures.proofs.AtChild.{at_child-within, at_child-past, lt_or_le, suc_not_zero, first_in, rest_in, picked_in}
 
@@ -29,9 +28,9 @@ check_within (f ∷ fs) zero v h = omega arith
 check_within (f ∷ fs) (suc k) v h =
     let one : suc k - 1 ≡ k = omega arith in
     let later : check_at fs k v ≡ true =
-        sym (ap (λ o. (if o then f else check_at fs (suc k - 1)) v) (suc_not_zero k)
-        ∙ ap (λ n. check_at fs n v) one)
-        ∙ h in
+    sym (ap (λ o. (if o then f else check_at fs (suc k - 1)) v) (suc_not_zero k)
+    ∙ ap (λ n. check_at fs n v) one)
+    ∙ h in
     omega (arith, check_within fs k v later)
 
 -- the k-th check of a list of checks, one for each node

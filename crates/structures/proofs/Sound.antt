@@ -1,5 +1,5 @@
 -- Structures that fit, with state numbers and weights within their bounds: so are their children.
-use Rattle.std.proofs.Common.{◌≡◌, ℕ, zero, suc, ◌+◌, ◌<◌, ◌≤◌, ◌^◌, Bool, true, false, not, cond, List, [], ◌∷◌, ◌++◌, length, map, drop, Option, Some, None, slice_get, Contains, refl, sym, ap, ◌∙◌, subst, true≢false, ⊎_elim, inl, inr, arith, append_assoc, length-append}
+use Rattle.std.proofs.Common.{◌≡◌, ℕ, zero, suc, ◌+◌, ◌<◌, ◌≤◌, ◌^◌, Bool, true, false, not, cond, List, [], ◌∷◌, ◌++◌, length, map, drop, Some, None, slice_get, Contains, refl, sym, ap, ◌∙◌, subst, true≢false, ⊎_elim, inl, inr, arith, append_assoc, length-append}
 use Rattle.std.specs.Prelude.{◌⊎◌, filter, unwrap_or}
 use Rattle.std.specs.List.{list_all, AllZip}
 use Rattle.std.proofs.lemmas.Option.{slice_get_past, slice_get_cases}
@@ -100,7 +100,7 @@ pub fits_inside : (t : Nodes) (p : ℕ) (v : Value) → fits t p v ≡ true → 
 fits_inside t p v h =
     ⊎_elim (λ w. w.1)
     (λ w. absurd (true≢false
-      (sym h ∙ ap (λ (f : Check). f v) (fold-past no_check fits_step t (length t) p w.0))))
+    (sym h ∙ ap (λ (f : Check). f v) (fold-past no_check fits_step t (length t) p w.0))))
     (slice_get_cases t p).1
 
 module _ (t : Nodes) (is : IsTerm t) (n : ℕ) where
@@ -200,7 +200,7 @@ module _ (t : Nodes) (is : IsTerm t) (n : ℕ) where
           let same : target ≡ i = ap (λ o. unwrap_or o 0) is_i in
           let lead : LeadsTo State n (places ++ layers_in t zs) z target = (i, is_i, state_within n z.1 (good 0 z refl).below i is_i, same) in
           let flat : AllZip (Leads (places ++ layers_in t zs)) (z ∷ zs) (target ∷ targets_of t (length places) zs) =
-            (subst (λ m. LeadsTo m n (places ++ layers_in t zs) z target) (sym e) lead, later places) in
+          (subst (λ m. LeadsTo m n (places ++ layers_in t zs) z target) (sym e) lead, later places) in
           subst (λ b. AllZip (Leads (places ++ cond (not b) (z ∷ layers_in t zs) (layers_in t zs))) (z ∷ zs) (cond b (target ∷ targets_of t (length places) zs) (length places ∷ targets_of t (length places + 1) zs))) (sym (ap is_state e)) flat
       by later m e = layer (ap is_state e) (subst (λ m. LeadsTo m n (places ++ z ∷ layers_in t zs) z (length places)) (sym e) (at_end places z (layers_in t zs)))
         where
@@ -208,7 +208,6 @@ module _ (t : Nodes) (is : IsTerm t) (n : ℕ) where
           layer f lead =
               let more : length (places ++ z ∷ []) ≡ length places + 1 = omega (arith, length-append places (z ∷ [])) in
               let rest : AllZip (Leads (places ++ z ∷ layers_in t zs)) zs (targets_of t (length places + 1) zs) =
-                subst (λ k. AllZip (Leads (places ++ z ∷ layers_in t zs)) zs (targets_of t k zs)) more
-                (subst (λ l. AllZip (Leads l) zs (targets_of t (length (places ++ z ∷ [])) zs)) (append_assoc places (z ∷ []) (layers_in t zs)) (later (places ++ z ∷ []))) in
+              subst (λ k. AllZip (Leads (places ++ z ∷ layers_in t zs)) zs (targets_of t k zs)) more
+              (subst (λ l. AllZip (Leads l) zs (targets_of t (length (places ++ z ∷ [])) zs)) (append_assoc places (z ∷ []) (layers_in t zs)) (later (places ++ z ∷ []))) in
               subst (λ b. AllZip (Leads (places ++ cond (not b) (z ∷ layers_in t zs) (layers_in t zs))) (z ∷ zs) (cond b (unwrap_or (state z.1) 0 ∷ targets_of t (length places) zs) (length places ∷ targets_of t (length places + 1) zs))) (sym f) (lead, rest)
-

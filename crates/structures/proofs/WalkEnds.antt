@@ -8,7 +8,7 @@ use Rattle.functor_terms.specs.Terms.{Nodes, node_at}
 use Rattle.typing.specs.declared.value.Value.{Value}
 use Rattle.typing.specs.Fits.{fits}
 use Rattle.typing.specs.Bounds.{is_within}
-use Rattle.typing.specs.Layers.{Place, leaves_of, added, sorted_in, edges_in, sorted_count, edge_count}
+use Rattle.typing.specs.Layers.{Place, leaves_of, added, sorted_in, edges_in}
 use Rattle.edge_store.specs.Edges.{chosen}
 use Rattle.structures.specs.Structures.{Occurrence, StandsFor, LeadsBy, IsSorting, numbers_on, numbers_below, occurrences_from, sources_from, AreStructures}
 use Rattle.structures.specs.Walk.{LeadsTo, IsWalked}
@@ -82,9 +82,12 @@ module _
   lead_by :
       (m : Node) (x : Place) (y : ℕ) → LeadsTo m (length values) places x y →
       LeadsBy system numbers m x y
-  lead_by State x y (i, is_i, in_i, same) =
-      (i, is_i, subst (λ k. i < k) (sym (length-numbers 0 (length values))) in_i,
-        number_is i in_i ∙ sym same)
+  lead_by State x y (i, is_i, in_i, same) = (
+    i,
+    is_i,
+    subst (λ k. i < k) (sym (length-numbers 0 (length values))) in_i,
+    number_is i in_i ∙ sym same,
+  )
   lead_by m x y h = stands y x h
 
   all_by :
@@ -104,28 +107,28 @@ module _
       let zeroth : y ≡ 0 + y = omega arith in
       subst
       (λ k. AllZip (λ z k. LeadsTo (node_at t z.0) (length values) places z k) (leaves_of t x)
-        (chosen k sources targets)) zeroth
+      (chosen k sources targets)) zeroth
       (walked.linked y x (within places y x e) e)
 
   walked_sorting : IsSorting t values system numbers
   walked_sorting = record {
     one_root = length-numbers 0 (length values);
     rooted = λ i v e.
-      subst (λ k. StandsFor system k 0 v) (sym (number_is i (within values i v e)))
-      (stands i (0, v) (walked.rooted i v e));
+        subst (λ k. StandsFor system k 0 v) (sym (number_is i (within values i v e)))
+        (stands i (0, v) (walked.rooted i v e));
     linked = λ y o e.
-      let (x, at_x, is_x) = place_of sources targets 0 places y o e in
-      subst
-      (λ (o : Occurrence). AllZip (λ z k. LeadsBy system numbers (node_at t z.0) z k)
+        let (x, at_x, is_x) = place_of sources targets 0 places y o e in
+        subst
+        (λ (o : Occurrence). AllZip (λ z k. LeadsBy system numbers (node_at t z.0) z k)
         (leaves_of t (o.node, o.value)) o.targets) is_x
-      (all_by (leaves_of t x) (chosen (0 + y) sources targets) (linked_now y x at_x));
+        (all_by (leaves_of t x) (chosen (0 + y) sources targets) (linked_now y x at_x));
     fit = λ y o e.
-      let (x, at_x, is_x) = place_of sources targets 0 places y o e in
-      subst (λ (o : Occurrence). fits t o.node o.value ≡ true) is_x (walked.fit y x at_x).0;
+        let (x, at_x, is_x) = place_of sources targets 0 places y o e in
+        subst (λ (o : Occurrence). fits t o.node o.value ≡ true) is_x (walked.fit y x at_x).0;
     within = λ y o e.
-      let (x, at_x, is_x) = place_of sources targets 0 places y o e in
-      subst (λ (o : Occurrence). is_within (2 ^ 106) o.value ≡ true) is_x
-      (walked.fit y x at_x).2;
+        let (x, at_x, is_x) = place_of sources targets 0 places y o e in
+        subst (λ (o : Occurrence). is_within (2 ^ 106) o.value ≡ true) is_x
+        (walked.fit y x at_x).2;
   }
 
   walked_sources : sources ≡ sources_from t 0 places
@@ -139,14 +142,20 @@ module _
     by_source = walked_sources;
     one_each = walked.one_each;
     ascending = subst (λ l. AllPairs (λ a b. a ≤ b) l) (sym walked_sources)
-      (sources_ascend t places);
+        (sources_ascend t places);
     sources_in = subst (λ l. All (λ s. s < length places) l) (sym walked_sources)
-      (sources_inside t places);
+        (sources_inside t places);
     targets_in = all_of (λ s. s < length places) targets walked.inside;
-    sorted = omega (arith, walked.counted,
-      ap (λ l. added (map (sorted_in t) l)) (all_dropped places));
-    edges = omega (arith, walked.edged,
-      ap (λ l. added (map (edges_in t) l)) (all_dropped places));
+    sorted = omega (
+      arith,
+      walked.counted,
+      ap (λ l. added (map (sorted_in t) l)) (all_dropped places),
+    );
+    edges = omega (
+      arith,
+      walked.edged,
+      ap (λ l. added (map (edges_in t) l)) (all_dropped places),
+    );
     few = few;
     few_edges = few_edges;
   }

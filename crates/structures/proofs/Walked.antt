@@ -1,6 +1,6 @@
 -- One step of the walk keeps its facts.
-use Rattle.std.proofs.Common.{◌≡◌, ℕ, zero, suc, ◌+◌, ◌<◌, ◌≤◌, ◌^◌, min, Bool, true, false, not, cond, List, [], ◌∷◌, ◌++◌, length, map, take, drop, Some, slice_get, refl, sym, ap, ◌∙◌, subst, ⊎_elim, arith, append_assoc, length-append}
-use Rattle.std.specs.Prelude.{◌⊎◌, unwrap_or, slice_index}
+use Rattle.std.proofs.Common.{◌≡◌, ℕ, zero, suc, ◌+◌, ◌<◌, ◌≤◌, ◌^◌, Bool, true, false, not, cond, List, [], ◌∷◌, ◌++◌, length, map, take, drop, Some, slice_get, refl, sym, ap, ◌∙◌, subst, ⊎_elim, arith, length-append}
+use Rattle.std.specs.Prelude.{◌⊎◌, unwrap_or}
 use Rattle.std.specs.List.{list_all, AllByRecursion, AllZip}
 use Rattle.functor_terms.specs.declared.node.Node.{Node}
 use Rattle.functor_terms.specs.declared.node.Node.TheVariants.{State}
@@ -9,7 +9,7 @@ use Rattle.typing.specs.declared.value.Value.{Value}
 use Rattle.typing.specs.Values.{state, states_below}
 use Rattle.typing.specs.Fits.{fits}
 use Rattle.typing.specs.Bounds.{is_within}
-use Rattle.typing.specs.Layers.{Place, leaves_of, layers_in, is_state_at, added, sorted_in, edges_in, sorted_count, edge_count, roots_of}
+use Rattle.typing.specs.Layers.{Place, leaves_of, layers_in, is_state_at, added, sorted_in, edges_in, sorted_count, roots_of}
 use Rattle.typing.proofs.StableLaws.{each_of}
 use Rattle.edge_store.specs.Edges.{chosen}
 use Rattle.structures.specs.Structures.{repeated, sources_from}
@@ -44,7 +44,7 @@ targets_count t n (x ∷ xs) = by (λ m. targets_count t m xs) (is_state_at t x)
     by :
         ((m : ℕ) → length (targets_of t m xs) ≡ length xs) → (b : Bool) →
         length (cond b (unwrap_or (state x.1) 0 ∷ targets_of t n xs)
-          (n ∷ targets_of t (n + 1) xs)) ≡ suc (length xs)
+        (n ∷ targets_of t (n + 1) xs)) ≡ suc (length xs)
     by later true = ap suc (later n)
     by later false = ap suc (later (n + 1))
 
@@ -130,19 +130,19 @@ module _
   chosen_new : chosen at new_sources new_targets ≡ new
   chosen_new =
       let none : chosen at sources targets ≡ [] =
-          ap (λ l. chosen at l targets) walked.by_source
-          ∙ chosen-past t at 0 (take at places) (omega (arith, before)) targets in
+      ap (λ l. chosen at l targets) walked.by_source
+      ∙ chosen-past t at 0 (take at places) (omega (arith, before)) targets in
       chosen_both at ∙ ap (λ l. l ++ chosen at (repeated at count) new) none
       ∙ chosen-repeated at count new new_count
 
   kept_sources : new_sources ≡ sources_from t 0 (take (at + 1) (places ++ more))
   kept_sources =
       let first : take (at + 1) (places ++ more) ≡ take at places ++ x ∷ [] =
-          take_first places more (at + 1) (omega (arith, inside)) ∙ take_next places at x here in
+      take_first places more (at + 1) (omega (arith, inside)) ∙ take_next places at x here in
       let number : 0 + length (take at places) ≡ at = omega (arith, before) in
       sym (ap (λ l. sources_from t 0 l) first ∙ sources-snoc t 0 (take at places) x
-        ∙ ap (λ k. sources_from t 0 (take at places) ++ repeated k count) number
-        ∙ ap (λ l. l ++ repeated at count) (sym walked.by_source))
+      ∙ ap (λ k. sources_from t 0 (take at places) ++ repeated k count) number
+      ∙ ap (λ l. l ++ repeated at count) (sym walked.by_source))
 
   earlier_or_now : (y : ℕ) → y < at + 1 → (y < at) ⊎ (y ≡ at)
   earlier_or_now y h = grind arith
@@ -164,67 +164,73 @@ module _
       (chosen y new_sources new_targets)
   now y z same e =
       let this : x ≡ z =
-          some_first x z (sym (kept_at places more at x here)
-            ∙ ap (slice_get (places ++ more)) (sym same) ∙ e) in
+      some_first x z (sym (kept_at places more at x here)
+      ∙ ap (slice_get (places ++ more)) (sym same) ∙ e) in
       let those : chosen y new_sources new_targets ≡ new =
-          ap (λ k. chosen k new_sources new_targets) same ∙ chosen_new in
+      ap (λ k. chosen k new_sources new_targets) same ∙ chosen_new in
       subst
       (λ w. AllZip (λ w k. LeadsTo (node_at t w.0) n (places ++ more) w k) (leaves_of t w)
-        (chosen y new_sources new_targets)) this
+      (chosen y new_sources new_targets)) this
       (subst
-        (λ ks. AllZip (λ w k. LeadsTo (node_at t w.0) n (places ++ more) w k) (leaves_of t x) ks)
-        (sym those) leads)
+      (λ ks. AllZip (λ w k. LeadsTo (node_at t w.0) n (places ++ more) w k) (leaves_of t x) ks)
+      (sym those) leads)
 
   pub walked_step : IsWalked t values (places ++ more) new_sources new_targets (at + 1)
   walked_step = record {
     rooted = λ i v e. kept_at places more i (0, v) (walked.rooted i v e);
     fit = λ y z e. ⊎_elim (λ old. walked.fit y z old)
-      (λ new. let good = (layer_later t is n x sound new.0 z new.1).2 in
+        (λ new. let good = (layer_later t is n x sound new.0 z new.1).2 in
         (good.fit, good.below, good.within)) (either_at places more y z e);
     enough = omega (arith, walked.enough, length-append places more);
     by_source = kept_sources;
     one_each =
-      omega (arith, length-append targets new, length-append sources (repeated at count),
-        walked.one_each, new_count, length-repeated at count);
+        omega (
+          arith,
+          length-append targets new,
+          length-append sources (repeated at count),
+          walked.one_each,
+          new_count,
+          length-repeated at count,
+        );
     inside =
-      let larger : length places ≤ length (places ++ more) =
-          omega (arith, length-append places more) in
-      below-append (length (places ++ more)) targets new
-      (below_more (length places) (length (places ++ more)) targets larger walked.inside)
-      (targets_inside (places ++ more) (leaves_of t x) new leads
+        let larger : length places ≤ length (places ++ more) =
+        omega (arith, length-append places more) in
+        below-append (length (places ++ more)) targets new
+        (below_more (length places) (length (places ++ more)) targets larger walked.inside)
+        (targets_inside (places ++ more) (leaves_of t x) new leads
         (omega (arith, walked.enough, larger)));
     linked = λ y z h e.
-      ⊎_elim (λ earlier. old y z earlier e) (λ same. now y z same e) (earlier_or_now y h);
+        ⊎_elim (λ earlier. old y z earlier e) (λ same. now y z same e) (earlier_or_now y h);
     counted =
-      let rest : List Place = drop (at + 1) places in
-      let behind :
-          added (map (sorted_in t) (drop (at + 1) (places ++ more)))
-          ≡ added (map (sorted_in t) rest) + added (map (sorted_in t) more) =
-          ap (λ l. added (map (sorted_in t) l))
-          (drop-append places more (at + 1) (omega (arith, inside)))
-          ∙ added-append (sorted_in t) rest more in
-      let all :
-          added (map (sorted_in t) (drop at places))
-          ≡ sorted_in t x + added (map (sorted_in t) rest) =
-          ap (λ l. added (map (sorted_in t) l)) (drop_at places at x here) in
-      let one : sorted_in t x ≡ 1 + added (map (sorted_in t) more) =
-          over-at t is n 0 (λ y counts. 1 + added counts) x sound in
-      omega (arith, behind, all, one, walked.counted);
+        let rest : List Place = drop (at + 1) places in
+        let behind :
+        added (map (sorted_in t) (drop (at + 1) (places ++ more)))
+        ≡ added (map (sorted_in t) rest) + added (map (sorted_in t) more) =
+        ap (λ l. added (map (sorted_in t) l))
+        (drop-append places more (at + 1) (omega (arith, inside)))
+        ∙ added-append (sorted_in t) rest more in
+        let all :
+        added (map (sorted_in t) (drop at places))
+        ≡ sorted_in t x + added (map (sorted_in t) rest) =
+        ap (λ l. added (map (sorted_in t) l)) (drop_at places at x here) in
+        let one : sorted_in t x ≡ 1 + added (map (sorted_in t) more) =
+        over-at t is n 0 (λ y counts. 1 + added counts) x sound in
+        omega (arith, behind, all, one, walked.counted);
     edged =
-      let rest : List Place = drop (at + 1) places in
-      let behind :
-          added (map (edges_in t) (drop (at + 1) (places ++ more)))
-          ≡ added (map (edges_in t) rest) + added (map (edges_in t) more) =
-          ap (λ l. added (map (edges_in t) l))
-          (drop-append places more (at + 1) (omega (arith, inside)))
-          ∙ added-append (edges_in t) rest more in
-      let all :
-          added (map (edges_in t) (drop at places))
-          ≡ edges_in t x + added (map (edges_in t) rest) =
-          ap (λ l. added (map (edges_in t) l)) (drop_at places at x here) in
-      let one : edges_in t x ≡ count + added (map (edges_in t) more) =
-          over-at t is n 0 (λ y counts. length (leaves_of t y) + added counts) x sound in
-      omega (arith, behind, all, one, new_count, length-append targets new, walked.edged);
+        let rest : List Place = drop (at + 1) places in
+        let behind :
+        added (map (edges_in t) (drop (at + 1) (places ++ more)))
+        ≡ added (map (edges_in t) rest) + added (map (edges_in t) more) =
+        ap (λ l. added (map (edges_in t) l))
+        (drop-append places more (at + 1) (omega (arith, inside)))
+        ∙ added-append (edges_in t) rest more in
+        let all :
+        added (map (edges_in t) (drop at places))
+        ≡ edges_in t x + added (map (edges_in t) rest) =
+        ap (λ l. added (map (edges_in t) l)) (drop_at places at x here) in
+        let one : edges_in t x ≡ count + added (map (edges_in t) more) =
+        over-at t is n 0 (λ y counts. length (leaves_of t y) + added counts) x sound in
+        omega (arith, behind, all, one, new_count, length-append targets new, walked.edged);
   }
 
 -- each structure counts itself
@@ -235,8 +241,8 @@ at_least :
 at_least t is n [] h = omega arith
 at_least t is n (x ∷ xs) h =
     let one :
-        sorted_in t x ≡ 1 + added (map (sorted_in t) (layers_in t (leaves_of t x))) =
-        over-at t is n 0 (λ y counts. 1 + added counts) x (h 0 x refl) in
+    sorted_in t x ≡ 1 + added (map (sorted_in t) (layers_in t (leaves_of t x))) =
+    over-at t is n 0 (λ y counts. 1 + added counts) x (h 0 x refl) in
     omega (arith, one, at_least t is n xs (λ i y e. h (suc i) y e))
 
 dropped_at :
@@ -263,12 +269,12 @@ module _
   pub few_places : length places ≤ sorted_count t values
   few_places =
       let sound : (i : ℕ) (x : Place) → slice_get places i ≡ Some x →
-              IsSound t is (length values) x =
-          λ i x e. let f = walked.fit i x e in
-            record { fit = f.0; below = f.1; within = f.2 } in
+      IsSound t is (length values) x =
+      λ i x e. let f = walked.fit i x e in
+      record { fit = f.0; below = f.1; within = f.2 } in
       let least : length (drop at places) ≤ added (map (sorted_in t) (drop at places)) =
-          at_least t is (length values) (drop at places)
-          (λ i x e. sound (at + i) x (dropped_at places at i x e)) in
+      at_least t is (length values) (drop at places)
+      (λ i x e. sound (at + i) x (dropped_at places at i x e)) in
       omega (arith, least, length-drop places at, walked.counted)
 
   pub node_inside : (y : ℕ) (x : Place) → slice_get places y ≡ Some x → x.0 < length t
@@ -316,13 +322,14 @@ module _
   walked_start = record {
     rooted = root_of values;
     fit = λ y x e.
-      let (v, at_v, is_v) = value_at values y x e in
-      subst
-      (λ (z : Place). (fits t z.0 z.1 ≡ true) × (states_below (length values) z.1 ≡ true)
-        × (is_within (2 ^ 106) z.1 ≡ true)) is_v
-      (each_of (fits t 0) values fitting y v at_v,
-        each_of (states_below (length values)) values in_range y v at_v,
-        each_of (is_within (2 ^ 106)) values in_bounds y v at_v);
+        let (v, at_v, is_v) = value_at values y x e in
+        subst
+        (λ (z : Place). (fits t z.0 z.1 ≡ true) × (states_below (length values) z.1 ≡ true)
+        × (is_within (2 ^ 106) z.1 ≡ true)) is_v (
+          each_of (fits t 0) values fitting y v at_v,
+          each_of (states_below (length values)) values in_range y v at_v,
+          each_of (is_within (2 ^ 106)) values in_bounds y v at_v,
+        );
     enough = omega (arith, roots_count values);
     by_source = sym (ap (λ l. sources_from t 0 l) (none_taken (roots_of values)));
     one_each = refl;

@@ -8,7 +8,7 @@
 -- occurrences_from                the occurrences of structures and of the targets of their edges
 -- sources_from                    each structure's number, as often as edges leave it
 -- AreStructures                   numbered structures, and sources and targets of their edges
-use Rattle.std.specs.Prelude.{◌≡◌, ℕ, zero, suc, ◌+◌, ◌<◌, ◌^◌, List, [], ◌∷◌, ◌++◌, length, map, slice_get, slice_index, Some, IsTrue, All, AllPairs, ◌≤◌}
+use Rattle.std.specs.Prelude.{◌≡◌, ℕ, zero, suc, ◌+◌, ◌<◌, ◌^◌, List, [], ◌∷◌, ◌++◌, length, slice_get, slice_index, Some, IsTrue, All, AllPairs, ◌≤◌}
 use Rattle.std.specs.List.{AllZip}
 use Rattle.functor_terms.specs.declared.node.Node.{Node}
 use Rattle.functor_terms.specs.declared.node.Node.TheVariants.{State}

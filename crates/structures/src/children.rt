@@ -65,8 +65,7 @@ fn weighed_at<'a>(nodes: &[u32], value: &'a Value, i: usize) -> (u32, &'a Value)
 
 /// The value in an injection, which stands at the node of its index.
 fn inner_at<'a>(nodes: &[u32], value: &'a Value, i: usize) -> (u32, &'a Value)
-    requires there {
-        i < length (at_child nodes.now (index value.now) (inner value.now ∷ [])) }
+    requires there { i < length (at_child nodes.now (index value.now) (inner value.now ∷ [])) }
     ensures { slice_get (at_child nodes.now (index value.now) (inner value.now ∷ [])) i
         ≡ Some (result.0, result.1.now) }
 {

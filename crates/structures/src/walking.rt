@@ -27,11 +27,7 @@ pub struct Structures<'a> {
 }
 
 /// The root structures of the states, with room for so many structures.
-fn roots<'a>(
-    alloc: Global,
-    values: &'a [Value],
-    room: usize,
-) -> Result<Places<'a>, AllocError>
+fn roots<'a>(alloc: Global, values: &'a [Value], room: usize) -> Result<Places<'a>, AllocError>
     ensures { IfOk result (λ p. p ≡ roots_of values.now) }
 {
     let mut places = Places::with_capacity(alloc, room)?;
@@ -55,8 +51,7 @@ fn follow<'a>(
 ) -> Result<(), AllocError>
     requires few { length places.old < 2 ^ 26 }
     requires few_edges { length targets.old.items < 2 ^ 26 }
-    requires starts {
-        IsWalked term.now values.now places.old sources.old.items targets.old.items 0 }
+    requires starts { IsWalked term.now values.now places.old sources.old.items targets.old.items 0 }
     ensures walked { IfOk result (λ _. IsWalked term.now values.now places.new sources.new.items
         targets.new.items (length places.new)) }
     ensures few { IfOk result (λ _. length places.new < 2 ^ 26) }
@@ -78,11 +73,7 @@ fn follow<'a>(
 }
 
 /// The structures of values that fit, and their edges.
-fn walked<'a>(
-    alloc: Global,
-    term: &Term,
-    values: &'a [Value],
-) -> Result<Structures<'a>, AllocError>
+fn walked<'a>(alloc: Global, term: &Term, values: &'a [Value]) -> Result<Structures<'a>, AllocError>
     requires fitting { IsTrue (list_all (fits term.now 0) values.now) }
     requires in_range { IsTrue (list_all (states_below (length values.now)) values.now) }
     requires within { IsTrue (list_all (is_within (2 ^ 106)) values.now) }
@@ -109,10 +100,7 @@ fn walked<'a>(
 /// The structures of a coalgebra and their edges. The root structure of a state has the state's
 /// number. The error is want of memory, and comes also where there would be 2^26 structures or
 /// edges, as in no file.
-pub fn structures_of<'a>(
-    alloc: Global,
-    c: &'a Coalgebra,
-) -> Result<Structures<'a>, AllocError>
+pub fn structures_of<'a>(alloc: Global, c: &'a Coalgebra) -> Result<Structures<'a>, AllocError>
     ensures structures { IfOk result (λ s. AreStructures c.now.term c.now.values.items s.places
         s.sources.items s.targets.items) }
 {

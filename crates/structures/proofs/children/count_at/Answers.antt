@@ -1,4 +1,4 @@
-use Rattle.std.proofs.Common.{◌≡◌, ◌∙◌, sym, ap, length}
+use Rattle.std.proofs.Common.{◌∙◌, sym, ap, length}
 use Rattle.structures.proofs.AtChild.{at_child-past, count_within}
 use Rattle.structures.proofs.children.count_at.Goals as goal
 

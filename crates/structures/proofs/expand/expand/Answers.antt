@@ -1,4 +1,4 @@
-use Rattle.std.proofs.Common.{◌≡◌, ◌<◌, ◌≤◌, length, ap, sym, arith}
+use Rattle.std.proofs.Common.{◌≤◌, length, ap, arith}
 use Rattle.typing.specs.Layers.{leaves_of}
 use Rattle.structures.proofs.Leaves.{leaves-children}
 use Rattle.structures.proofs.Expands.{children_inside, leaf_at, link_places, link_sources, link_targets, link_few, linked_places, linked_sources, linked_targets}
@@ -14,8 +14,8 @@ loop-i-preserved c =
     let t = c.args.term.now in
     let kids = leaves_of t (c.args.node, c.args.value.now) in
     let here =
-        leaf_at t c.args.node c.loop-i.i c.args.value.now
-        (c.child-q.result.0, c.child-q.result.1.now) c.child-q.ensures in
+    leaf_at t c.args.node c.loop-i.i c.args.value.now
+    (c.child-q.result.0, c.child-q.result.1.now) c.child-q.ensures in
     record {
       places =
           link_places t kids c.loop-i.i _ here c.loop-i.places c.lead.new.places
@@ -39,8 +39,11 @@ returns-clause-places c =
     let t = c.args.term.now in
     let kids = leaves_of t (c.args.node, c.args.value.now) in
     let past : length kids ≤ c.loop-i.i =
-        omega (arith, c.child_count-i-end.ensures,
-          ap length (leaves-children t (c.args.node, c.args.value.now))) in
+    omega (
+      arith,
+      c.child_count-i-end.ensures,
+      ap length (leaves-children t (c.args.node, c.args.value.now)),
+    ) in
     linked_places t kids c.loop-i.places _ c.loop-i.i past c.loop-i.invariant.places
 
 pub returns-clause-sources : goal.returns-clause-sources
@@ -48,8 +51,11 @@ returns-clause-sources c =
     let t = c.args.term.now in
     let kids = leaves_of t (c.args.node, c.args.value.now) in
     let past : length kids ≤ c.loop-i.i =
-        omega (arith, c.child_count-i-end.ensures,
-          ap length (leaves-children t (c.args.node, c.args.value.now))) in
+    omega (
+      arith,
+      c.child_count-i-end.ensures,
+      ap length (leaves-children t (c.args.node, c.args.value.now)),
+    ) in
     linked_sources kids c.args.source c.loop-i.i c.loop-i.sources.items _ past
     c.loop-i.invariant.sources
 
@@ -58,7 +64,10 @@ returns-clause-targets c =
     let t = c.args.term.now in
     let kids = leaves_of t (c.args.node, c.args.value.now) in
     let past : length kids ≤ c.loop-i.i =
-        omega (arith, c.child_count-i-end.ensures,
-          ap length (leaves-children t (c.args.node, c.args.value.now))) in
+    omega (
+      arith,
+      c.child_count-i-end.ensures,
+      ap length (leaves-children t (c.args.node, c.args.value.now)),
+    ) in
     linked_targets t kids c.loop-i.i (length c.loop-i.places) c.loop-i.targets.items _ past
     c.loop-i.invariant.targets

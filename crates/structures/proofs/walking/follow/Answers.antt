@@ -22,19 +22,22 @@ child_count-more-requires c = record {
 
 pub expand-requires-clause-few : goal.expand-requires-clause-few
 expand-requires-clause-few c =
-    omega (arith, c.child_count-more.ensures.count,
-      ap length (leaves-children c.args.term.now (c.get-node.result.0, c.get-node.result.1.now)))
+    omega (
+      arith,
+      c.child_count-more.ensures.count,
+      ap length (leaves-children c.args.term.now (c.get-node.result.0, c.get-node.result.1.now)),
+    )
 
 pub loop-next-smaller : goal.loop-next-smaller
 loop-next-smaller c =
     let one : length c.loop-next.places ≤ sorted_count c.args.term.now c.args.values.now =
-        few_places c.args.term.now c.args.values.now c.len-nodes.ensures.term c.loop-next.places
-        c.loop-next.sources.items c.loop-next.targets.items c.loop-next.next
-        c.loop-next.invariant.walked in
+    few_places c.args.term.now c.args.values.now c.len-nodes.ensures.term c.loop-next.places
+    c.loop-next.sources.items c.loop-next.targets.items c.loop-next.next
+    c.loop-next.invariant.walked in
     let smaller :
-        sorted_count c.args.term.now c.args.values.now - (c.loop-next.next + 1)
-        < sorted_count c.args.term.now c.args.values.now - c.loop-next.next =
-        omega (arith, one) in
+    sorted_count c.args.term.now c.args.values.now - (c.loop-next.next + 1)
+    < sorted_count c.args.term.now c.args.values.now - c.loop-next.next =
+    omega (arith, one) in
     smaller
 
 pub loop-next-preserved : goal.loop-next-preserved
@@ -48,33 +51,45 @@ loop-next-preserved c =
     record {
       walked =
           subst (λ ps. IsWalked t c.args.values.now ps c.expand.new.sources.items
-            c.expand.new.targets.items (at + 1)) (sym c.in_ok-expand.ensures.places)
+          c.expand.new.targets.items (at + 1)) (sym c.in_ok-expand.ensures.places)
           (subst (λ ss. IsWalked t c.args.values.now (c.loop-next.places ++ layers_in t kids) ss
-            c.expand.new.targets.items (at + 1)) (sym c.in_ok-expand.ensures.sources)
-            (subst (λ ts. IsWalked t c.args.values.now
-              (c.loop-next.places ++ layers_in t kids) sources ts (at + 1))
-              (sym c.in_ok-expand.ensures.targets)
-              (walked_step t c.args.values.now c.len-nodes.ensures.term c.loop-next.places
-                c.loop-next.sources.items c.loop-next.targets.items at
-                c.loop-next.invariant.walked (p, v) c.get-node.ensures.place)));
+          c.expand.new.targets.items (at + 1)) (sym c.in_ok-expand.ensures.sources)
+          (subst (λ ts. IsWalked t c.args.values.now
+          (c.loop-next.places ++ layers_in t kids) sources ts (at + 1))
+          (sym c.in_ok-expand.ensures.targets)
+          (walked_step t c.args.values.now c.len-nodes.ensures.term c.loop-next.places
+          c.loop-next.sources.items c.loop-next.targets.items at
+          c.loop-next.invariant.walked (p, v) c.get-node.ensures.place)));
       within =
-          omega (arith, ap length c.in_ok-expand.ensures.places,
-            length-append c.loop-next.places (layers_in t kids));
+          omega (
+            arith,
+            ap length c.in_ok-expand.ensures.places,
+            length-append c.loop-next.places (layers_in t kids),
+          );
       few =
-          omega (arith, ap length c.in_ok-expand.ensures.places,
-            length-append c.loop-next.places (layers_in t kids), few_layers t kids,
-            c.child_count-more.ensures.count, ap length (leaves-children t (p, v)));
+          omega (
+            arith,
+            ap length c.in_ok-expand.ensures.places,
+            length-append c.loop-next.places (layers_in t kids),
+            few_layers t kids,
+            c.child_count-more.ensures.count,
+            ap length (leaves-children t (p, v)),
+          );
       few_edges =
-          omega (arith, ap length c.in_ok-expand.ensures.targets,
+          omega (
+            arith,
+            ap length c.in_ok-expand.ensures.targets,
             length-append c.loop-next.targets.items
-            (targets_of t (length c.loop-next.places) kids),
-            targets_count t (length c.loop-next.places) kids, c.child_count-more.ensures.count,
-            ap length (leaves-children t (p, v)));
+                (targets_of t (length c.loop-next.places) kids),
+            targets_count t (length c.loop-next.places) kids,
+            c.child_count-more.ensures.count,
+            ap length (leaves-children t (p, v)),
+          );
     }
 
 pub returns-clause-walked : goal.returns-clause-walked
 returns-clause-walked c =
     let same : c.loop-next.next ≡ length c.loop-next.places =
-        omega (arith, c.loop-next.invariant.within) in
+    omega (arith, c.loop-next.invariant.within) in
     subst (λ n. IsWalked c.args.term.now c.args.values.now c.loop-next.places
-      c.loop-next.sources.items c.loop-next.targets.items n) same c.loop-next.invariant.walked
+    c.loop-next.sources.items c.loop-next.targets.items n) same c.loop-next.invariant.walked

@@ -12,6 +12,6 @@ returns c =
           walked_end t c.args.c.now.values.items found.places found.sources.items
           found.targets.items
           (subst (λ vs. IsWalked t vs found.places found.sources.items found.targets.items
-            (length found.places)) c.as_slice.ensures.value c.in_ok-found.ensures.walked)
+          (length found.places)) c.as_slice.ensures.value c.in_ok-found.ensures.walked)
           c.in_ok-found.ensures.few c.in_ok-found.ensures.few_edges;
     }
