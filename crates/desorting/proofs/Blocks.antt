@@ -1,5 +1,5 @@
 -- Lists to which each structure adds as many as edges leave it.
-use Rattle.std.proofs.Common.{◌≡◌, ℕ, zero, suc, ◌+◌, ◌<◌, ◌≤◌, false, List, [], ◌∷◌, ◌++◌, length, Some, None, slice_get, refl, sym, ap, ◌∙◌, subst, ⊎_elim, arith, length-append}
+use Rattle.std.proofs.Common.{◌≡◌, ℕ, ◌+◌, ◌<◌, false, List, [], ◌∷◌, ◌++◌, length, Some, slice_get, refl, sym, ap, ◌∙◌, subst, ⊎_elim, arith, length-append}
 use Rattle.std.specs.Prelude.{◌⊎◌, ◌==◌}
 use Rattle.std.specs.List.{AllZip}
 use Rattle.std.proofs.lemmas.Bool.Decides.{nat_tests}
@@ -48,12 +48,12 @@ module _ {X : Type 0} (t : Nodes) (R : Place → List X → Type 0) where
         R z (chosen y (sources_from t 0 all) (xs ++ ys))
     old y z h e =
         let kept : chosen y (sources_from t 0 all) (xs ++ ys)
-                ≡ chosen y (sources_from t 0 places) xs =
-            both y
-            ∙ ap (λ l. chosen y (sources_from t 0 places) xs ++ l)
-            (chosen-other y (0 + length places) (length (leaves_of t x)) ys
-              (later_test (0 + length places) y (omega (arith, h))))
-            ∙ append_none (chosen y (sources_from t 0 places) xs) in
+        ≡ chosen y (sources_from t 0 places) xs =
+        both y
+        ∙ ap (λ l. chosen y (sources_from t 0 places) xs ++ l)
+        (chosen-other y (0 + length places) (length (leaves_of t x)) ys
+        (later_test (0 + length places) y (omega (arith, h))))
+        ∙ append_none (chosen y (sources_from t 0 places) xs) in
         subst (R z) (sym kept) (blocks.each y z (first_part places (x ∷ []) y z h e))
 
     now :
@@ -61,26 +61,32 @@ module _ {X : Type 0} (t : Nodes) (R : Place → List X → Type 0) where
         R z (chosen y (sources_from t 0 all) (xs ++ ys))
     now y z same e =
         let this : x ≡ z =
-            at_last places x z (ap (slice_get all) (sym same) ∙ e) in
+        at_last places x z (ap (slice_get all) (sym same) ∙ e) in
         let number : 0 + length places ≡ y = omega (arith, same) in
         let those : chosen y (sources_from t 0 all) (xs ++ ys) ≡ ys =
-            both y
-            ∙ ap (λ l. l ++ chosen y new ys)
-            (chosen-past t y 0 places (omega (arith, same)) xs)
-            ∙ ap (λ k. chosen y (repeated k (length (leaves_of t x))) ys) number
-            ∙ chosen-repeated y (length (leaves_of t x)) ys count in
+        both y
+        ∙ ap (λ l. l ++ chosen y new ys)
+        (chosen-past t y 0 places (omega (arith, same)) xs)
+        ∙ ap (λ k. chosen y (repeated k (length (leaves_of t x))) ys) number
+        ∙ chosen-repeated y (length (leaves_of t x)) ys count in
         subst (λ w. R w (chosen y (sources_from t 0 all) (xs ++ ys))) this
         (subst (R x) (sym those) holds)
 
     pub blocks_more : AreBlocks t R all (xs ++ ys)
     blocks_more = record {
       one_each =
-        omega (arith, ap length sources_are, length-append (sources_from t 0 places) new,
-          length-repeated (0 + length places) (length (leaves_of t x)), blocks.one_each,
-          length-append xs ys, count);
+          omega (
+            arith,
+            ap length sources_are,
+            length-append (sources_from t 0 places) new,
+            length-repeated (0 + length places) (length (leaves_of t x)),
+            blocks.one_each,
+            length-append xs ys,
+            count,
+          );
       each = λ y z e.
-        ⊎_elim (λ earlier. old y z earlier e) (λ last. now y z last e)
-        (cases y (omega (arith, within all y z e, length-append places (x ∷ []))));
+          ⊎_elim (λ earlier. old y z earlier e) (λ last. now y z last e)
+          (cases y (omega (arith, within all y z e, length-append places (x ∷ []))));
     }
       where
         cases : (y : ℕ) → y < length places + 1 → (y < length places) ⊎ (y ≡ length places)

@@ -1,25 +1,23 @@
 -- Stable labellings of the system, as the refiner knows them, and stable lists of the coalgebra.
-use Rattle.std.proofs.Common.{◌≡◌, ℕ, zero, suc, ◌+◌, ◌<◌, ◌≤◌, ◌^◌, Bool, true, List, [], ◌∷◌, length, map, Option, Some, None, slice_get, refl, sym, ap, ◌∙◌, subst, ⊎_elim, arith, All}
-use Rattle.std.specs.Prelude.{slice_index, ◌↔◌, ℤ}
+use Rattle.std.proofs.Common.{◌≡◌, ℕ, zero, suc, ◌<◌, true, List, [], ◌∷◌, length, map, Some, None, slice_get, refl, sym, ap, ◌∙◌, subst, arith}
+use Rattle.std.specs.Prelude.{slice_index, ◌↔◌}
 use Rattle.std.specs.List.{AllZip}
 use Rattle.std.specs.Option.{option_map}
 use Rattle.std.proofs.lemmas.List.{length-map}
 use Rattle.std.proofs.lemmas.Option.{slice_get-map}
-use Rattle.functor_terms.specs.declared.node.Node.{Node}
-use Rattle.functor_terms.specs.declared.node.Node.TheVariants.{State, Constant, Naturals, Product, Sum, Power, Powerset, Bag, Distribution, Integers, Rationals}
 use Rattle.functor_terms.specs.Terms.{Nodes, IsTerm, node_at, children_at}
 use Rattle.typing.specs.declared.value.Value.{Value}
 use Rattle.typing.specs.Values.{relabelled}
-use Rattle.typing.specs.Layers.{Place, child_places}
+use Rattle.typing.specs.Layers.{child_places}
 use Rattle.typing.specs.Equality.{are_equal}
 use Rattle.typing.specs.Stable as coalgebra
 use Rattle.typing.proofs.FirstPlaces.{get_within, some_same}
 use Rattle.typing.proofs.StableLaws.{element}
 use Rattle.iface.specs.Structures.{Classed}
-use Rattle.sorted_systems.specs.Systems.{Sorted, IsState, IsStable, IsGreatestStable, Refines, class_in, seen}
-use Rattle.structures.specs.Structures.{Occurrence, LeadsBy, IsSorting}
+use Rattle.sorted_systems.specs.Systems.{IsState, IsStable, IsGreatestStable, class_in, seen}
+use Rattle.structures.specs.Structures.{Occurrence, IsSorting}
 use Rattle.desorting.specs.Agreement.{AgreeAt, IsStableSorting, root_labels, IsJoined}
-use Rattle.layers.specs.Nest.{AnyShape, AnyLabel, any_node, any_agree}
+use Rattle.layers.specs.Nest.{AnyShape, AnyLabel, any_agree}
 use Rattle.desorting.specs.Shapes.{shape_of, labels_of, sorted_of, sorted_system}
 use Rattle.desorting.proofs.Bridge.{structure, one_node, node_is, agree_to, agree_from}
 use Rattle.desorting.proofs.Desorting.{linked_children, to_coalgebra, to_system, joined_labels, joined_labels-join}
@@ -73,9 +71,9 @@ module _ (t : Nodes) (values : List Value) (system : List Occurrence) (roots : L
   from_sorting s stable = record {
     one_each = stable.one_each ∙ sym (length-map system (sorted_of t));
     agrees = λ x y a b is_a is_b same.
-      let (o, at_x, same_a) = mapped_at (sorted_of t) system x a is_a in
-      let (p, at_y, same_b) = mapped_at (sorted_of t) system y b is_b in
-      subst (λ z. any_agree (seen (class_in s) z) (seen (class_in s) b)) same_a (subst (λ z. any_agree (seen (class_in s) (sorted_of t o)) (seen (class_in s) z)) same_b (both x y o p at_x at_y (stable.agrees x y o p at_x at_y same)));
+        let (o, at_x, same_a) = mapped_at (sorted_of t) system x a is_a in
+        let (p, at_y, same_b) = mapped_at (sorted_of t) system y b is_b in
+        subst (λ z. any_agree (seen (class_in s) z) (seen (class_in s) b)) same_a (subst (λ z. any_agree (seen (class_in s) (sorted_of t o)) (seen (class_in s) z)) same_b (both x y o p at_x at_y (stable.agrees x y o p at_x at_y same)));
   }
     where
       both : (x y : ℕ) (o p : Occurrence) → slice_get system x ≡ Some o → slice_get system y ≡ Some p → (o.node ≡ p.node) × AgreeAt (node_at t o.node) o.value p.value (classes s o) (classes s p)
@@ -84,7 +82,7 @@ module _ (t : Nodes) (values : List Value) (system : List Occurrence) (roots : L
           let qs = children_at t o.node in
           let count : length (classes s p) ≡ length (child_places (node_at t o.node) (children_at t o.node) o.node p.value) = subst (λ r. length (classes s p) ≡ length (child_places (node_at t r) (children_at t r) r p.value)) (sym one) (one_class s p y at_y) in
           let agree : any_agree (structure_of s o) (structure (node_at t o.node) o.node p.value (classes s p)) =
-            agree_from (children_at t o.node) o.node o.value p.value (classes s o) (classes s p) (node_at t o.node) (one_class s o x at_x) count h in
+          agree_from (children_at t o.node) o.node o.value p.value (classes s o) (classes s p) (node_at t o.node) (one_class s o x at_x) count h in
           let there : any_agree (structure_of s o) (structure_of s p) = subst (λ r. any_agree (structure_of s o) (structure (node_at t r) r p.value (classes s p))) one agree in
           subst (λ z. any_agree z (seen (class_in s) (sorted_of t p))) (sym (seen_is s o)) (subst (λ z. any_agree (structure_of s o) z) (sym (seen_is s p)) there)
 
@@ -111,6 +109,7 @@ module _ (t : Nodes) (values : List Value) (system : List Occurrence) (roots : L
     where
       label : (i : ℕ) → i < length values → slice_index (root_labels roots r) i ≡ class_in r (slice_index roots i)
       label i h = slice_index-map (class_in r) roots i (subst (λ n. i < n) (sym sorting.one_root) h)
+
       joined : (b : List ℕ) → coalgebra.IsStable t values b → slice_index b i ≡ slice_index b j → class_in r (slice_index roots i) ≡ class_in r (slice_index roots j)
       joined b stable same =
           let s : List ℕ = joined_labels t b system in

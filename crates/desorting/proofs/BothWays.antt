@@ -1,27 +1,20 @@
 -- The system of sorted states keeps equivalence, in both directions.
-use Rattle.std.proofs.Common.{◌≡◌, ℕ, zero, suc, ◌+◌, ◌-◌, ◌<◌, ◌≤◌, Bool, true, false, ◌&&◌, List, [], ◌∷◌, length, map, Some, None, slice_get, Contains, refl, sym, ap, ◌∙◌, subst, true≢false, arith}
-use Rattle.std.specs.Prelude.{ℤ, ◌==◌, nat_eq, slice_index, if◌then◌else◌, IsTrue}
+use Rattle.std.proofs.Common.{◌≡◌, ℕ, zero, suc, ◌-◌, ◌<◌, Bool, true, ◌&&◌, List, [], ◌∷◌, length, map, Contains, refl, sym, ap, ◌∙◌, subst, true≢false, arith}
+use Rattle.std.specs.Prelude.{ℤ, ◌==◌, slice_index, if◌then◌else◌}
 use Rattle.std.specs.Cmp.{IsEquivalence}
 use Rattle.std.specs.Cmp.Lexicographic.{pointwise}
-use Rattle.std.specs.List.{list_all, zip, AllZip}
-use Rattle.std.specs.Option.{option_eq, option_map, option_map_or}
+use Rattle.std.specs.List.{zip, AllZip}
 use Rattle.std.proofs.lemmas.Bool.{and_parts, and_from, eqb-true, eq-eqb}
 use Rattle.std.proofs.lemmas.List.{length-map}
-use Rattle.std.proofs.lemmas.Bool.Decides.{nat_tests}
 use Rattle.functor_terms.specs.declared.node.Node.{Node}
 use Rattle.functor_terms.specs.declared.node.Node.TheVariants.{State, Constant, Naturals, Product, Sum, Power, Powerset, Bag, Distribution, Integers, Rationals}
-use Rattle.functor_terms.specs.Terms.{Nodes, IsTerm, node_at, children_at}
-use Rattle.functor_terms.proofs.Folds.{fold-at}
 use Rattle.typing.specs.declared.value.Value.{Value, Value-F, out-Value}
-use Rattle.typing.specs.Values.{state, label, index, inner, parts, entries, relabelled, index_in}
+use Rattle.typing.specs.Values.{label, index, inner, parts, entries, relabelled, index_in}
 use Rattle.typing.specs.Layers.{Place, at_child, weighed, child_places}
-use Rattle.structures.proofs.AtChild.{suc_not_zero, first_in, rest_in, picked_in, at_child-within}
-use Rattle.typing.specs.Fits.{Check, fits, fits_level, fits_step, check_at, no_check}
-use Rattle.typing.specs.Equality.{Test, no_test, test_at, each_place, same_members, same_weights, eq_step, are_equal}
-use Rattle.typing.specs.Stable.{IsStable}
-use Rattle.typing.proofs.MapLaws.{parts_map, index_map, inner_map, entries_map, label_map, state_map}
-use Rattle.typing.proofs.EqualityLaws.{eq-equivalence}
-use Rattle.typing.proofs.FirstPlaces.{get_within, some_same}
+use Rattle.structures.proofs.AtChild.{suc_not_zero, picked_in, at_child-within}
+use Rattle.typing.specs.Fits.{Check, fits_level, fits_step, check_at}
+use Rattle.typing.specs.Equality.{Test, test_at, each_place, same_members, same_weights, eq_step}
+use Rattle.typing.proofs.MapLaws.{parts_map, index_map, inner_map, entries_map, label_map}
 use Rattle.desorting.specs.Agreement.{AgreeAt}
 use Rattle.structures.proofs.Arities.{HasOne}
 use Rattle.desorting.proofs.Steps.{ClassesEqual, EqualsMeet, product-equal, product-agree, power-equal, power-agree, members-equal, members-agree}
@@ -133,7 +126,7 @@ module _ (R : Place → ℕ → Type 0) (b : List ℕ) (E : ℕ → Test) (is : 
         let inside : k < length qs = subst (λ n. k < n) (length-map qs f) (sum_within (map f qs) v fit) in
         let (c, r, e) = head_of R (slice_index qs (index v), inner v) cs (inner_at v cs inside x) in
         let (d, r', e') = head_of R (slice_index qs (index w), inner w) ds
-            (inner_at w ds (subst (λ n. n < length qs) same.0 inside) y) in
+        (inner_at w ds (subst (λ n. n < length qs) same.0 inside) y) in
         let one : c ≡ d = heads_same c d (sym e ∙ same.1 ∙ e') in
         let there : R (slice_index qs k, inner w) c = subst (λ n. R (slice_index qs n, inner w) c) (sym same.0) (subst (λ n. R (slice_index qs (index w), inner w) n) (sym one) r') in
         let equal = h (slice_index qs k) (picked_in qs k inside) (inner v) (inner w) c r there in
@@ -182,7 +175,7 @@ module _ (R : Place → ℕ → Type 0) (b : List ℕ) (E : ℕ → Test) (is : 
         let same : k ≡ index w = eqb-true k (index w) both.0 in
         let (c, r, is_c) = head_of R (slice_index qs (index v), inner v) cs (inner_at v cs inside x) in
         let (d, r', is_d) = head_of R (slice_index qs (index w), inner w) ds
-            (inner_at w ds (subst (λ n. n < length qs) same inside) y) in
+        (inner_at w ds (subst (λ n. n < length qs) same inside) y) in
         let there : R (slice_index qs k, inner w) d = subst (λ n. R (slice_index qs n, inner w) d) (sym same) r' in
         let one : c ≡ d = h (slice_index qs k) (picked_in qs k inside) (inner v) (inner w) c d r there (sym (ap (λ g. g (relabelled b (inner v)) (relabelled b (inner w))) (test_at-map E qs k inside)) ∙ both.1) in
         (same, is_c ∙ ap (λ n. n ∷ []) one ∙ sym is_d)

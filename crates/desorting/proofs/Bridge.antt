@@ -1,21 +1,20 @@
 -- What the interfaces say of the shapes of structures, in terms of their values.
-use Rattle.std.proofs.Common.{◌≡◌, ℕ, zero, suc, ◌+◌, ◌<◌, Bool, true, false, ◌||◌, cond, List, [], ◌∷◌, length, map, refl, sym, ap, ◌∙◌, subst, arith}
+use Rattle.std.proofs.Common.{◌≡◌, ℕ, ◌+◌, Bool, true, false, ◌||◌, cond, List, [], ◌∷◌, length, map, refl, sym, ap, ◌∙◌, arith}
 use Rattle.std.specs.Prelude.{ℤ, pos, ◌+ℤ◌, ◌*◌, ◌==◌, if◌then◌else◌, slice_index}
-use Rattle.std.specs.List.{list_any, zip}
+use Rattle.std.specs.List.{list_any}
 use Rattle.std.proofs.lemmas.Int.{ints}
 use Rattle.functor_terms.specs.declared.node.Node.{Node}
 use Rattle.functor_terms.specs.declared.node.Node.TheVariants.{State, Constant, Naturals, Product, Sum, Power, Powerset, Bag, Distribution, Integers, Rationals}
 use Rattle.typing.specs.declared.value.Value.{Value}
-use Rattle.typing.specs.Values.{label, index, parts, entries}
+use Rattle.typing.specs.Values.{label, index, entries}
 use Rattle.typing.specs.Layers.{child_places}
-use Rattle.modalities.specs.declared.three.Three.{Three}
 use Rattle.modalities.specs.declared.three.Three.TheVariants as value
 use Rattle.iface.specs.declared.side.Side.{Side}
 use Rattle.iface.specs.declared.side.Side.TheVariants.{Left, Right}
 use Rattle.iface.specs.Structures.{Classed}
-use Rattle.iface.specs.Sides.{node_of_side, agree_of_sides, lefts, rights}
+use Rattle.iface.specs.Sides.{node_of_side, agree_of_sides}
 use Rattle.powerset_iface.specs.declared.weight.SetShape.{SetShape}
-use Rattle.powerset_iface.specs.Sets.{agree_of_sets, has, members_of}
+use Rattle.powerset_iface.specs.Sets.{agree_of_sets, has}
 use Rattle.monoid_iface.specs.declared.weight.GroupShape.{GroupShape}
 use Rattle.monoid_iface.specs.Groups.{agree_of_groups}
 use Rattle.distribution_iface.specs.declared.weight.DistShape.{DistShape}
@@ -62,9 +61,9 @@ pub one_node : (x y : Classed AnyShape AnyLabel) → any_agree x y → any_node 
 one_node =
     sides_node agree_of_sets _ _ _ set_node
     (sides_node (agree_of_groups (pos 0) add) _ _ _ group_node
-        (sides_node (agree_of_groups (pos 0) add) _ _ _ group_node
-            (sides_node (agree_of_groups (pos 0) add) _ _ _ group_node
-                (sides_node agree_of_dists agree_of_forms _ _ dist_node form_node))))
+    (sides_node (agree_of_groups (pos 0) add) _ _ _ group_node
+    (sides_node (agree_of_groups (pos 0) add) _ _ _ group_node
+    (sides_node agree_of_dists agree_of_forms _ _ dist_node form_node))))
 
 pub node_is : (m : Node) (p : ℕ) (v : Value) (k : ℕ) → any_node (shape_of m p v k) ≡ p
 node_is State p v k = refl
@@ -178,8 +177,8 @@ triple_is :
     ≡ weights_of m d es g
 triple_is m d es ls g e =
     let at :
-        (k : ℕ) → sum_if (pos 0) add (λ c. c == k) ls g ≡ joint_with (plus_at m) es g k =
-        λ k. ap (λ l. sum_if (pos 0) add (λ c. c == k) l g) e ∙ sum_is m k es g in
+    (k : ℕ) → sum_if (pos 0) add (λ c. c == k) ls g ≡ joint_with (plus_at m) es g k =
+    λ k. ap (λ l. sum_if (pos 0) add (λ c. c == k) l g) e ∙ sum_is m k es g in
     λ i. triple (lowest_terms (at 0 i) d) (lowest_terms (at 1 i) d) (lowest_terms (at 2 i) d)
 
 pub value_is : (d : ℕ) (m : Node) (p : ℕ) (v : Value) (k : ℕ) (g : List ℕ) → any_value d (shape_of m p v k) (labels_of m v k) g ≡ layer_value d m v g

@@ -1,16 +1,16 @@
 -- The system of sorted states keeps equivalence, in both directions.
-use Rattle.std.proofs.Common.{◌≡◌, ℕ, zero, suc, ◌+◌, ◌<◌, ◌≤◌, Bool, true, false, true≢false, ◌&&◌, ⊎_elim, List, [], ◌∷◌, length, map, Option, Some, None, slice_get, Contains, refl, sym, ap, ◌∙◌, subst, arith}
-use Rattle.std.specs.Prelude.{slice_index, nat_eq, ◌==◌, ◌↔◌}
+use Rattle.std.proofs.Common.{◌≡◌, ℕ, zero, suc, ◌+◌, ◌<◌, ◌≤◌, Bool, true, false, ◌&&◌, List, [], ◌∷◌, length, map, Some, slice_get, Contains, refl, sym, ap, ◌∙◌, subst, arith}
+use Rattle.std.specs.Prelude.{slice_index, nat_eq, ◌==◌}
 use Rattle.std.specs.List.{AllZip}
-use Rattle.std.specs.Option.{option_eq, option_map, option_map_or}
+use Rattle.std.specs.Option.{option_eq, option_map}
 use Rattle.std.specs.Cmp.{IsEquivalence}
 use Rattle.std.proofs.lemmas.Cmp.{nat_eq_equiv, on_equiv}
 use Rattle.std.proofs.lemmas.Bool.{eqb-true, eq-eqb, and_parts, and_from}
 use Rattle.std.proofs.lemmas.List.{length-map}
-use Rattle.std.proofs.lemmas.Option.{get_or_from_slice_get, slice_get-map, slice_get_past, slice_get_cases}
+use Rattle.std.proofs.lemmas.Option.{get_or_from_slice_get, slice_get-map}
 use Rattle.functor_terms.specs.declared.node.Node.{Node}
-use Rattle.functor_terms.specs.declared.node.Node.TheVariants.{State, Constant, Naturals, Product, Sum, Power, Powerset, Bag, Distribution, Integers, Rationals}
-use Rattle.functor_terms.specs.Terms.{Nodes, IsTerm, node_at, children_at, fold_within}
+use Rattle.functor_terms.specs.declared.node.Node.TheVariants.{State}
+use Rattle.functor_terms.specs.Terms.{Nodes, IsTerm, node_at, children_at}
 use Rattle.functor_terms.proofs.Folds.{fold-at}
 use Rattle.typing.specs.declared.value.Value.{Value}
 use Rattle.typing.specs.Values.{state, relabelled}
@@ -25,8 +25,7 @@ use Rattle.typing.proofs.StableLaws.{element}
 use Rattle.structures.specs.Structures.{Occurrence, StandsFor, LeadsBy, IsSorting}
 use Rattle.desorting.specs.Agreement.{AgreeAt, IsStableSorting, root_labels, IsJoined}
 use Rattle.functor_terms.proofs.TermLaws.{term-later}
-use Rattle.typing.specs.Layers.{leaves_of}
-use Rattle.structures.proofs.Arities.{HasOne, has_one, some_node}
+use Rattle.structures.proofs.Arities.{has_one, some_node}
 use Rattle.structures.proofs.Leaves.{leaves-children}
 use Rattle.structures.proofs.Sound.{fits_inside}
 use Rattle.desorting.proofs.Steps.{ClassesEqual, EqualsMeet}
@@ -142,10 +141,10 @@ module _ (t : Nodes) (values : List Value) (system : List Occurrence) (roots : L
     to_coalgebra = record {
       covers = ap length labels ∙ length-map roots class_of ∙ sorting.one_root;
       equal = λ i j u v at_i at_j same.
-        let in_i : i < length roots = subst (λ n. i < n) (sym sorting.one_root) (get_within values i u at_i) in
-        let in_j : j < length roots = subst (λ n. j < n) (sym sorting.one_root) (get_within values j v at_j) in
-        stand 0 (some_node t is_term) (λ k child. let (later, last) = term-later t is_term 0 k child in claim (length t) k (omega arith) last)
-        (slice_index roots i) (slice_index roots j) u v (sorting.rooted i u at_i) (sorting.rooted j v at_j) (sym (label_is i in_i) ∙ same ∙ label_is j in_j);
+          let in_i : i < length roots = subst (λ n. i < n) (sym sorting.one_root) (get_within values i u at_i) in
+          let in_j : j < length roots = subst (λ n. j < n) (sym sorting.one_root) (get_within values j v at_j) in
+          stand 0 (some_node t is_term) (λ k child. let (later, last) = term-later t is_term 0 k child in claim (length t) k (omega arith) last)
+          (slice_index roots i) (slice_index roots j) u v (sorting.rooted i u at_i) (sorting.rooted j v at_j) (sym (label_is i in_i) ∙ same ∙ label_is j in_j);
     }
 
   -- from the coalgebra to the system
@@ -183,10 +182,12 @@ module _ (t : Nodes) (values : List Value) (system : List Occurrence) (roots : L
         let (one_node, equal) = (joined.joins x y o p at_x at_y).0 same in
         let q : ℕ = o.node in
         let inside : q < length t = fits_inside t q o.value (sorting.fit x o at_x) in
-        let second : AllZip HasClass (places_of q p.value) (map class_of p.targets) = subst (λ r. AllZip HasClass (places_of r p.value) (map class_of p.targets)) (sym one_node) (children_classed y p at_y) in
-        (one_node, layer-agree HasClass b equal_at (λ r. eq-equivalence t r) (children_at t q) q o.value p.value (map class_of o.targets) (map class_of p.targets)
-        (λ r child. meets r (term-later t is_term q r child).1) (node_at t q) (has_one t is_term q) (fits t) (sym (fits-at q o.value inside) ∙ sorting.fit x o at_x)
-        (λ e c d r r' same. states_meet q o.value p.value c d e r r' same) (children_classed x o at_x) second (sym (eq-at q (relabelled b o.value) (relabelled b p.value) inside) ∙ equal))
+        let second : AllZip HasClass (places_of q p.value) (map class_of p.targets) = subst (λ r. AllZip HasClass (places_of r p.value) (map class_of p.targets)) (sym one_node) (children_classed y p at_y) in (
+          one_node,
+          layer-agree HasClass b equal_at (λ r. eq-equivalence t r) (children_at t q) q o.value p.value (map class_of o.targets) (map class_of p.targets)
+              (λ r child. meets r (term-later t is_term q r child).1) (node_at t q) (has_one t is_term q) (fits t) (sym (fits-at q o.value inside) ∙ sorting.fit x o at_x)
+              (λ e c d r r' same. states_meet q o.value p.value c d e r r' same) (children_classed x o at_x) second (sym (eq-at q (relabelled b o.value) (relabelled b p.value) inside) ∙ equal),
+        )
 
     pub to_system : IsStableSorting t system s
     to_system = record { one_each = joined.one_each; agrees = agrees }
@@ -220,11 +221,11 @@ module _ (t : Nodes) (b : List ℕ) (system : List Occurrence) where
     one_each = length-map system (first_of together together-equivalence system);
     joins = λ x y o p at_x at_y. (
       (λ same.
-        let e = first_of-equal together together-equivalence system x y o p at_x at_y (sym (label_at x o at_x) ∙ same ∙ label_at y p at_y) in
-        let both = and_parts (o.node == p.node) (under o.node o.value p.value) e in
-        (eqb-true o.node p.node both.0, both.1)),
+          let e = first_of-equal together together-equivalence system x y o p at_x at_y (sym (label_at x o at_x) ∙ same ∙ label_at y p at_y) in
+          let both = and_parts (o.node == p.node) (under o.node o.value p.value) e in
+          (eqb-true o.node p.node both.0, both.1)),
       (λ both.
-        let e : together o p ≡ true = and_from (o.node == p.node) (under o.node o.value p.value) (eq-eqb o.node p.node both.0) both.1 in
-        label_at x o at_x ∙ first_of-same together together-equivalence system o p e ∙ sym (label_at y p at_y)),
+          let e : together o p ≡ true = and_from (o.node == p.node) (under o.node o.value p.value) (eq-eqb o.node p.node both.0) both.1 in
+          label_at x o at_x ∙ first_of-same together together-equivalence system o p e ∙ sym (label_at y p at_y)),
     );
   }

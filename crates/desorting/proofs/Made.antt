@@ -1,5 +1,5 @@
 -- Numbered structures with their edges are the sorted states of a coalgebra.
-use Rattle.std.proofs.Common.{◌≡◌, ℕ, zero, suc, ◌+◌, ◌<◌, ◌≤◌, ◌^◌, Bool, true, false, List, [], ◌∷◌, length, Some, slice_get, refl, sym, ap, ◌∙◌, subst, arith}
+use Rattle.std.proofs.Common.{◌≡◌, ℕ, suc, ◌+◌, ◌<◌, ◌≤◌, ◌^◌, Bool, true, false, List, [], ◌∷◌, length, Some, slice_get, sym, ap, ◌∙◌, subst, arith}
 use Rattle.std.specs.Prelude.{ℤ, ◌==◌, if◌then◌else◌}
 use Rattle.std.proofs.lemmas.List.{length-map}
 use Rattle.functor_terms.specs.Terms.{Nodes, IsTerm, node_at}
@@ -48,7 +48,7 @@ module _
   leaf_count y x e =
       zip_length
       (λ z k. LeadsBy (occurrences_from 0 places sources targets)
-        (numbers_below (length values)) (node_at t z.0) z k) (leaves_of t x)
+      (numbers_below (length values)) (node_at t z.0) z k) (leaves_of t x)
       (chosen (0 + y) sources targets)
       (are.sorting.linked y _ (occurrence_at sources targets 0 places y x e))
 
@@ -77,11 +77,12 @@ module _
           IsEdged t shapes table sources targets labels edges are_sources are_labels are_targets
           (0 + y) x
       edged y x e =
-          let zeroth : y ≡ 0 + y = omega arith in
-          (subst (λ k. IsLabelled t table x (chosen k sources labels)) zeroth
-            (subst (λ l. IsLabelled t table x (chosen y l labels)) (sym are.by_source)
-              (numbered.labelled.each y x e)),
-            leaf_count y x e)
+          let zeroth : y ≡ 0 + y = omega arith in (
+            subst (λ k. IsLabelled t table x (chosen k sources labels)) zeroth
+                (subst (λ l. IsLabelled t table x (chosen y l labels)) (sym are.by_source)
+                (numbered.labelled.each y x e)),
+            leaf_count y x e,
+          )
 
       pub made_system :
           decoded_system (shape_with shapes) (label_of shapes table)

@@ -1,7 +1,6 @@
 -- What the numbers of shapes and labels stand for.
-use Rattle.std.proofs.Common.{◌≡◌, ℕ, zero, suc, ◌+◌, ◌<◌, ◌≤◌, ◌^◌, true, List, [], ◌∷◌, ◌++◌, length, map, take, Some, slice_get, refl, sym, ap, ◌∙◌, subst, arith}
-use Rattle.std.specs.Prelude.{ℤ, pos, slice_index_or}
-use Rattle.std.specs.List.{AllZip}
+use Rattle.std.proofs.Common.{◌≡◌, ℕ, ◌+◌, ◌<◌, ◌≤◌, ◌^◌, true, List, [], ◌∷◌, ◌++◌, length, map, take, Some, slice_get, refl, sym, ap, ◌∙◌, subst, arith}
+use Rattle.std.specs.Prelude.{ℤ, pos}
 use Rattle.std.proofs.lemmas.List.{length-map}
 use Rattle.std.proofs.lemmas.Option.{get_or_from_slice_get}
 use Rattle.functor_terms.specs.declared.node.Node.{Node}
@@ -14,7 +13,7 @@ use Rattle.typing.specs.Layers.{Place, at_child, weighed, child_places, leaves_o
 use Rattle.weights.specs.Sums.{size_of}
 use Rattle.iface.specs.declared.side.Side.TheVariants.{Left}
 use Rattle.polynomial_iface.specs.Polys.{numbers_from}
-use Rattle.layers.specs.Nest.{AnyLabel, in_bag, in_whole, in_scaled, in_dist, at_place, place_labels}
+use Rattle.layers.specs.Nest.{AnyLabel, in_bag, in_whole, in_scaled, in_dist, at_place}
 use Rattle.layers.specs.declared.shape.LayerShape.{LayerShape}
 use Rattle.layers.specs.Packing.{class_of}
 use Rattle.layers.specs.Tables.{Keeps}
@@ -59,7 +58,7 @@ pub weighed_step :
 weighed_step old new kept ws i w at y is ys h =
     subst (λ l. AreWeighed new l (ys ++ y ∷ [])) (sym (take_next ws i w at))
     (zip_more (λ w y. slice_get new y ≡ Some w) (take i ws) ys w y
-      (weighed_kept old new kept (take i ws) ys h) is)
+    (weighed_kept old new kept (take i ws) ys h) is)
 
 pub labelled_kept :
     (old new : List ℤ) → Keeps old new → (m : Node) (v : Value) (k : ℕ) (ys : List ℕ) →
@@ -177,7 +176,7 @@ module _ (table : List ℤ) (v : Value) (k : ℕ) (ys : List ℕ) where
     labels_fit qs p Product f fit e h = h
     labels_fit qs p Sum f fit e h =
         let inside : index v < length qs =
-            subst (λ n. index v < n) (length-map qs f) (sum_within (map f qs) v fit) in
+        subst (λ n. index v < n) (length-map qs f) (sum_within (map f qs) v fit) in
         fixed 1 (e ∙ ap length (at_child-within qs (index v) (inner v ∷ []) inside)) h
     labels_fit qs p (Power labels) f fit e h = h
     labels_fit qs p Powerset f fit e h = tt
@@ -199,18 +198,18 @@ module _
   numbered_step places i x at ss ls ss' ls' before (s, are_s, is_s) (ys, are_l, is_l) =
       subst (λ l. AreNumbered t more larger (take (i + 1) places) ss' l) (sym are_l)
       (subst (λ l. AreNumbered t more larger (take (i + 1) places) l (ls ++ ys)) (sym are_s)
-        (subst (λ l. AreNumbered t more larger l (ss ++ s ∷ []) (ls ++ ys))
-          (sym (take_next places i x at))
-          (record {
-            shaped =
-              zip_more (λ x s. slice_get more s ≡ Some (layer_shape t x)) (take i places) ss x s
-              (zip_kept (λ x s. slice_get shapes s ≡ Some (layer_shape t x))
-                (λ x s. slice_get more s ≡ Some (layer_shape t x))
-                (λ x s e. kept s (layer_shape t x) e) (take i places) ss before.shaped) is_s;
-            labelled =
-              blocks_more t (IsLabelled t larger) (take i places) ls
-              (blocks_kept t (IsLabelled t table) (IsLabelled t larger)
-                (λ x ys h. labelled_kept table larger kept_weights (node_at t x.0) x.1
-                  (length (leaves_of t x)) ys h) (take i places) ls before.labelled) x ys
-              (one_label larger ys t is x is_l) is_l;
-          })))
+      (subst (λ l. AreNumbered t more larger l (ss ++ s ∷ []) (ls ++ ys))
+      (sym (take_next places i x at))
+      (record {
+        shaped =
+            zip_more (λ x s. slice_get more s ≡ Some (layer_shape t x)) (take i places) ss x s
+            (zip_kept (λ x s. slice_get shapes s ≡ Some (layer_shape t x))
+            (λ x s. slice_get more s ≡ Some (layer_shape t x))
+            (λ x s e. kept s (layer_shape t x) e) (take i places) ss before.shaped) is_s;
+        labelled =
+            blocks_more t (IsLabelled t larger) (take i places) ls
+            (blocks_kept t (IsLabelled t table) (IsLabelled t larger)
+            (λ x ys h. labelled_kept table larger kept_weights (node_at t x.0) x.1
+            (length (leaves_of t x)) ys h) (take i places) ls before.labelled) x ys
+            (one_label larger ys t is x is_l) is_l;
+      })))

@@ -1,8 +1,8 @@
 -- One layer: agreement of classes against equality of values, at each kind of node.
-use Rattle.std.proofs.Common.{◌≡◌, ℕ, zero, suc, ◌-◌, ◌<◌, Bool, true, false, ◌&&◌, ◌||◌, List, [], ◌∷◌, length, map, refl, sym, ap, ◌∙◌, subst, true≢false, ⊎_elim, Contains, arith}
-use Rattle.std.specs.Prelude.{◌==◌, nat_eq, slice_index}
+use Rattle.std.proofs.Common.{◌≡◌, ℕ, Bool, true, false, ◌||◌, List, [], ◌∷◌, map, refl, sym, ap, ◌∙◌, subst, true≢false, ⊎_elim, Contains}
+use Rattle.std.specs.Prelude.{◌==◌}
 use Rattle.std.specs.Cmp.Lexicographic.{pointwise}
-use Rattle.std.specs.List.{list_all, list_any, zip, AllZip}
+use Rattle.std.specs.List.{list_all, zip, AllZip}
 use Rattle.std.proofs.lemmas.Bool.{and_parts, and_from, or_cases, eqb-true, eq-eqb}
 use Rattle.typing.specs.declared.value.Value.{Value}
 use Rattle.typing.specs.Values.{relabelled}

@@ -1,5 +1,5 @@
 -- The sorted states are a system as the refiner wants it.
-use Rattle.std.proofs.Common.{◌≡◌, ℕ, zero, suc, ◌+◌, ◌<◌, ◌≤◌, ◌^◌, true, get_or, List, [], ◌∷◌, length, map, Some, slice_get, refl, sym, ap, ◌∙◌, subst, arith, All}
+use Rattle.std.proofs.Common.{◌≡◌, ℕ, zero, suc, ◌<◌, ◌≤◌, ◌^◌, true, get_or, List, [], ◌∷◌, length, map, Some, slice_get, refl, sym, ap, ◌∙◌, subst, arith, All}
 use Rattle.std.specs.Prelude.{ℤ, slice_index}
 use Rattle.std.specs.List.{AllZip}
 use Rattle.std.proofs.lemmas.List.{length-map}
@@ -18,15 +18,11 @@ use Rattle.typing.specs.Layers.{Place, child_places}
 use Rattle.typing.proofs.FirstPlaces.{get_within}
 use Rattle.typing.proofs.StableLaws.{element}
 use Rattle.weights.specs.Sums.{size_of}
-use Rattle.iface.specs.declared.side.Side.{Side}
-use Rattle.iface.specs.declared.side.Side.TheVariants.{Left, Right}
-use Rattle.iface.specs.Sides.{lefts, rights, AllLeft, AllRight}
-use Rattle.polynomial_iface.specs.Polys.{numbers_from}
 use Rattle.layers.specs.NestLabels.{all_left, bag_fit, whole_fit, scaled_fit, dist_fit, places_fit}
 use Rattle.desorting.proofs.Desorting.{linked_children}
-use Rattle.sorted_systems.specs.Systems.{Sorted, IsState, IsSystem}
+use Rattle.sorted_systems.specs.Systems.{Sorted, IsSystem}
 use Rattle.structures.specs.Structures.{Occurrence, LeadsBy, IsSorting}
-use Rattle.layers.specs.Nest.{AnyShape, AnyLabel, any_node, any_kin, any_fits, place_labels}
+use Rattle.layers.specs.Nest.{AnyShape, AnyLabel, any_node, any_kin, any_fits}
 use Rattle.desorting.specs.Shapes.{shape_of, labels_of, sorted_of, sorted_system}
 use Rattle.desorting.proofs.Bridge.{node_is}
 use Rattle.desorting.proofs.Counts.{labels_count}
@@ -49,7 +45,7 @@ module _ (qs : List ℕ) (p : ℕ) (v : Value) (k : ℕ) (small : size_of (λ (x
   shape_fits Product f fit h = places_fit k k refl
   shape_fits Sum f fit h =
       let inside : index v < length qs =
-          subst (λ n. index v < n) (length-map qs f) (sum_within (map f qs) v fit) in
+      subst (λ n. index v < n) (length-map qs f) (sum_within (map f qs) v fit) in
       places_fit k 1 (h ∙ ap length (at_child-within qs (index v) (inner v ∷ []) inside))
   shape_fits (Power labels) f fit h = places_fit k k refl
   shape_fits Powerset f fit h = (all_left _ (λ (u : Value). tt) (parts v), tt)
@@ -81,7 +77,7 @@ module _ (t : Nodes) (values : List Value) (system : List Occurrence) (roots : L
   fits-at x o at =
       let fit : fits t o.node o.value ≡ true = sorting.fit x o at in
       sym (ap (λ (f : Check). f o.value)
-        (fold-at no_check fits_step t is_term o.node (fits_inside t o.node o.value fit))) ∙ fit
+      (fold-at no_check fits_step t is_term o.node (fits_inside t o.node o.value fit))) ∙ fit
 
   lead_inside : (m : Node) (z : Place) (y : ℕ) → LeadsBy system roots m z y → y < length system
   lead_inside State z y (i, is_i, in_i, at_i) =
@@ -103,17 +99,17 @@ module _ (t : Nodes) (values : List Value) (system : List Occurrence) (roots : L
   pub sorting_is_system : IsSystem any_node any_kin any_fits (sorted_system t system)
   sorting_is_system = record {
     in_range = λ x a e. let (o, at_o, is_o) = mapped_at (sorted_of t) system x a e in
-      subst (λ (a : Sorted AnyShape AnyLabel). All (λ y. y < length (sorted_system t system)) a.targets) is_o
-      (λ k d l. subst (λ n. get_or o.targets k d < n) (sym (length-map system (sorted_of t))) (all_inside (child_places (node_at t o.node) (children_at t o.node) o.node o.value) o.targets (linked_children t values system roots sorting x o at_o) k d l));
+        subst (λ (a : Sorted AnyShape AnyLabel). All (λ y. y < length (sorted_system t system)) a.targets) is_o
+        (λ k d l. subst (λ n. get_or o.targets k d < n) (sym (length-map system (sorted_of t))) (all_inside (child_places (node_at t o.node) (children_at t o.node) o.node o.value) o.targets (linked_children t values system roots sorting x o at_o) k d l));
     one_each = λ x a e. let (o, at_o, is_o) = mapped_at (sorted_of t) system x a e in
-      subst (λ (a : Sorted AnyShape AnyLabel). length a.targets ≡ length a.labels) is_o
-      (count x o at_o ∙ sym (labels_count (node_at t o.node) (children_at t o.node) o.node o.value (has_one t is_term o.node)) ∙ ap (λ n. length (labels_of (node_at t o.node) o.value n)) (sym (count x o at_o)));
+        subst (λ (a : Sorted AnyShape AnyLabel). length a.targets ≡ length a.labels) is_o
+        (count x o at_o ∙ sym (labels_count (node_at t o.node) (children_at t o.node) o.node o.value (has_one t is_term o.node)) ∙ ap (λ n. length (labels_of (node_at t o.node) o.value n)) (sym (count x o at_o)));
     fit = λ x a e. let (o, at_o, is_o) = mapped_at (sorted_of t) system x a e in
-      subst (λ (a : Sorted AnyShape AnyLabel). any_fits a.shape a.labels) is_o (shape_fits (children_at t o.node) o.node o.value (length o.targets) (small x o at_o) (node_at t o.node) (fits t) (fits-at x o at_o) (count x o at_o));
+        subst (λ (a : Sorted AnyShape AnyLabel). any_fits a.shape a.labels) is_o (shape_fits (children_at t o.node) o.node o.value (length o.targets) (small x o at_o) (node_at t o.node) (fits t) (fits-at x o at_o) (count x o at_o));
     same_kind = λ x y a b e f same.
-      let (o, at_o, is_o) = mapped_at (sorted_of t) system x a e in
-      let (p, at_p, is_p) = mapped_at (sorted_of t) system y b f in
-      let one : o.node ≡ p.node = sym (node_is (node_at t o.node) o.node o.value (length o.targets)) ∙ ap (λ (a : Sorted AnyShape AnyLabel). any_node a.shape) is_o ∙ same ∙ sym (ap (λ (a : Sorted AnyShape AnyLabel). any_node a.shape) is_p) ∙ node_is (node_at t p.node) p.node p.value (length p.targets) in
-      subst (λ (a : Sorted AnyShape AnyLabel). any_kin a.shape b.shape) is_o (subst (λ (b : Sorted AnyShape AnyLabel). any_kin (shape_of (node_at t o.node) o.node o.value (length o.targets)) b.shape) is_p
-      (subst (λ r. any_kin (shape_of (node_at t o.node) o.node o.value (length o.targets)) (shape_of (node_at t r) r p.value (length p.targets))) one (kin_alike (node_at t o.node) o.node o.value p.value (length o.targets) (length p.targets))));
+        let (o, at_o, is_o) = mapped_at (sorted_of t) system x a e in
+        let (p, at_p, is_p) = mapped_at (sorted_of t) system y b f in
+        let one : o.node ≡ p.node = sym (node_is (node_at t o.node) o.node o.value (length o.targets)) ∙ ap (λ (a : Sorted AnyShape AnyLabel). any_node a.shape) is_o ∙ same ∙ sym (ap (λ (a : Sorted AnyShape AnyLabel). any_node a.shape) is_p) ∙ node_is (node_at t p.node) p.node p.value (length p.targets) in
+        subst (λ (a : Sorted AnyShape AnyLabel). any_kin a.shape b.shape) is_o (subst (λ (b : Sorted AnyShape AnyLabel). any_kin (shape_of (node_at t o.node) o.node o.value (length o.targets)) b.shape) is_p
+        (subst (λ r. any_kin (shape_of (node_at t o.node) o.node o.value (length o.targets)) (shape_of (node_at t r) r p.value (length p.targets))) one (kin_alike (node_at t o.node) o.node o.value p.value (length o.targets) (length p.targets))));
   }

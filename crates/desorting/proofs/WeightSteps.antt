@@ -1,5 +1,5 @@
 -- Weight lists: sums of classes against sums of equal entries.
-use Rattle.std.proofs.Common.{◌≡◌, ℕ, Bool, true, false, cond, List, [], ◌∷◌, ◌++◌, map, refl, sym, ap, ◌∙◌, subst, ⊎_elim, inl, inr, arith}
+use Rattle.std.proofs.Common.{◌≡◌, ℕ, Bool, true, false, cond, List, [], ◌∷◌, map, refl, sym, ap, ◌∙◌, subst, ⊎_elim, inl, inr, arith}
 use Rattle.std.specs.Prelude.{◌⊎◌, ℤ, pos, ◌+ℤ◌, ◌==◌, if◌then◌else◌}
 use Rattle.std.specs.Cmp.{IsEquivalence}
 use Rattle.std.specs.List.{list_all, AllZip}
@@ -81,10 +81,10 @@ module _ (R : Place → ℕ → Type 0) (b : List ℕ) (E : ℕ → Test) (q : �
   pub weights-equal : (us ws : List (Value × ℤ)) (cs ds : List ℕ) → ClassesEqual R b E q → AreClassed us cs → AreClassed ws ds → SameSums the_sum us ws cs ds → same_weights (E q) (moved us) (moved ws) ≡ true
   weights-equal us ws cs ds h x y same =
       let merged : (a : Placed R q) → weight_in same_value (placed us cs x) a ≡ weight_in same_value (placed ws ds y) a =
-        coarser_sums same_class same_value class-equivalence value-equivalence (λ v w e. h v.value w.value w.class (subst (λ k. R (q, v.value) k) (eqb-true v.class w.class e) v.known) w.known)
-        (placed us cs x) (placed ws ds y) (λ a. class_sums us cs x a ∙ same a.class ∙ sym (class_sums ws ds y a)) in
+      coarser_sums same_class same_value class-equivalence value-equivalence (λ v w e. h v.value w.value w.class (subst (λ k. R (q, v.value) k) (eqb-true v.class w.class e) v.known) w.known)
+      (placed us cs x) (placed ws ds y) (λ a. class_sums us cs x a ∙ same a.class ∙ sym (class_sums ws ds y a)) in
       let equal : (a : Placed R q) → weight_of (E q) (moved us) (relabelled b a.value) ≡ weight_of (E q) (moved ws) (relabelled b a.value) =
-        λ a. sym (value_sums us cs x a) ∙ merged a ∙ value_sums ws ds y a in
+      λ a. sym (value_sums us cs x a) ∙ merged a ∙ value_sums ws ds y a in
       let test : Value × ℤ → Bool = λ w. int_eq (weight_of (E q) (moved us) w.0) (weight_of (E q) (moved ws) w.0) in
       let passes : (a : Placed R q) (w : ℤ) → test (relabelled b a.value, w) ≡ true = λ a w. (Decides-int_eq (weight_of (E q) (moved us) (relabelled b a.value)) (weight_of (E q) (moved ws) (relabelled b a.value))).1 (equal a) in
       list_all-append test (moved us) (moved ws) ∙ and_from (list_all test (moved us)) (list_all test (moved ws)) (each_placed test us cs x passes) (each_placed test ws ds y passes)
@@ -103,11 +103,11 @@ module _ (R : Place → ℕ → Type 0) (b : List ℕ) (E : ℕ → Test) (q : �
   pub weights-agree : (us ws : List (Value × ℤ)) (cs ds : List ℕ) → EqualsMeet R b E q → AreClassed us cs → AreClassed ws ds → same_weights (E q) (moved us) (moved ws) ≡ true → SameSums the_sum us ws cs ds
   weights-agree us ws cs ds h x y e k =
       let equal : (a : Placed R q) → weight_in same_value (placed us cs x) a ≡ weight_in same_value (placed ws ds y) a =
-        λ a. value_sums us cs x a ∙ (same_weights-Decides (E q) is (moved us) (moved ws)).0 e (relabelled b a.value) ∙ sym (value_sums ws ds y a) in
+      λ a. value_sums us cs x a ∙ (same_weights-Decides (E q) is (moved us) (moved ws)).0 e (relabelled b a.value) ∙ sym (value_sums ws ds y a) in
       let merged : (a : Placed R q) → weight_in same_class (placed us cs x) a ≡ weight_in same_class (placed ws ds y) a =
-        coarser_sums same_value same_class value-equivalence class-equivalence (λ v w same. meets v w same) (placed us cs x) (placed ws ds y) equal in
+      coarser_sums same_value same_class value-equivalence class-equivalence (λ v w same. meets v w same) (placed us cs x) (placed ws ds y) equal in
       let at : ((a : Placed R q) × (a.class ≡ k)) → sum_at k us cs ≡ sum_at k ws ds =
-        λ a. subst (λ c. sum_at c us cs ≡ sum_at c ws ds) a.1 (sym (class_sums us cs x a.0) ∙ merged a.0 ∙ class_sums ws ds y a.0) in
+      λ a. subst (λ c. sum_at c us cs ≡ sum_at c ws ds) a.1 (sym (class_sums us cs x a.0) ∙ merged a.0 ∙ class_sums ws ds y a.0) in
       ⊎_elim at (λ none. ⊎_elim at (λ neither. none ∙ sym neither) (find k ws ds y)) (find k us cs x)
     where
       meets : (v w : Placed R q) → same_value v w ≡ true → same_class v w ≡ true

@@ -1,5 +1,5 @@
--- The structures in the values of a coalgebra, numbered, each with the numbers of those to which its
--- edges lead.
+-- The structures in the values of a coalgebra, numbered, each with the numbers of those to which
+-- its edges lead.
 --
 -- Occurrence                      a structure where it stands, and where its edges lead
 -- StandsFor, LeadsBy              what a number stands for, and where an edge leads

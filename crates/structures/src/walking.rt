@@ -51,7 +51,7 @@ fn follow<'a>(
 ) -> Result<(), AllocError>
     requires few { length places.old < 2 ^ 26 }
     requires few_edges { length targets.old.items < 2 ^ 26 }
-    requires starts { IsWalked term.now values.now places.old sources.old.items targets.old.items 0 }
+    requires begun { IsWalked term.now values.now places.old sources.old.items targets.old.items 0 }
     ensures walked { IfOk result (λ _. IsWalked term.now values.now places.new sources.new.items
         targets.new.items (length places.new)) }
     ensures few { IfOk result (λ _. length places.new < 2 ^ 26) }

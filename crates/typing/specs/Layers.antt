@@ -2,7 +2,7 @@
 -- there are.
 --
 -- Place                   == a structure: a value at a node
--- at_child qs k us        == the values us at the k-th of some nodes; none where there is no such node
+-- at_child qs k us        == the values us at the k-th of some nodes; none where there is none
 -- weighed v               == the values that stand in a list of weights
 -- child_places m qs p v   == the places of the children of v at node p, over its child nodes
 -- children_of t x         == the places of the children of x, where a state stands for itself

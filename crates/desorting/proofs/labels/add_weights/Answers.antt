@@ -11,14 +11,15 @@ loop-i-preserved c =
     let number = c.in_ok-number.number in
     let same : to_z w128 (of_z w128 c.weight_at.result) ≡ c.weight_at.result = search rules in
     record {
-      labels =
-          (ys ++ number ∷ [],
-            push_more c.args.labels.now.items c.loop-i.labels.items c.push.new.self.items number ys
+      labels = (
+        ys ++ number ∷ [],
+        push_more c.args.labels.now.items c.loop-i.labels.items c.push.new.self.items number ys
             (ys ++ number ∷ []) c.in_ok-push.ensures.items are refl,
-            weighed_step c.loop-i.table.weights c.weight.new.self.weights
+        weighed_step c.loop-i.table.weights c.weight.new.self.weights
             c.in_ok-number.ensures.kept (weights_in c.args.value.now) c.loop-i.i
             c.weight_at.result c.weight_at.ensures number
-            (c.in_ok-number.ensures.numbered ∙ ap Some same) ys weighed);
+            (c.in_ok-number.ensures.numbered ∙ ap Some same) ys weighed,
+      );
       kept = λ i x e. c.in_ok-number.ensures.kept i x (c.loop-i.invariant.kept i x e);
       shapes = c.in_ok-number.ensures.shapes ∙ c.loop-i.invariant.shapes;
     }

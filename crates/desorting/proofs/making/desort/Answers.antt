@@ -1,10 +1,7 @@
-use Rattle.std.proofs.Common.{◌≡◌, ◌<◌, ◌^◌, length, sym, ap, ◌∙◌, subst, arith}
-use Rattle.std.proofs.lemmas.List.{length-map}
-use Rattle.edge_store.specs.declared.edge.Edge.{Edge}
-use Rattle.layers.specs.declared.shape.LayerShape.{LayerShape}
+use Rattle.std.proofs.Common.{◌<◌, ◌^◌, sym, ◌∙◌, subst}
 use Rattle.structures.specs.Structures.{occurrences_from}
 use Rattle.desorting.specs.Numbered.{AreNumbered}
-use Rattle.desorting.proofs.Made.{place_inside, few_leaves, one_number, one_label, made_system, made_fit, as_many_targets}
+use Rattle.desorting.proofs.Made.{place_inside, few_leaves, one_number, made_system, made_fit, as_many_targets}
 use Rattle.desorting.proofs.making.desort.Goals as goal
 
 pub numbered-requires-clause-inside : goal.numbered-requires-clause-inside
@@ -45,10 +42,10 @@ returns c =
     let table = c.in_ok-iface.iface.weights.items in
     let edges = c.in_ok-edges.edges.1 in
     let numbered : AreNumbered t shapes table found.places numbers labels =
-        subst (λ l. AreNumbered t l table found.places numbers labels)
-        (sym c.in_ok-iface.ensures.shapes)
-        (subst (λ l. AreNumbered t c.numbered.new.table.shapes l found.places numbers labels)
-          (sym c.in_ok-iface.ensures.weights) c.in_ok-shapes.ensures.numbered) in
+    subst (λ l. AreNumbered t l table found.places numbers labels)
+    (sym c.in_ok-iface.ensures.shapes)
+    (subst (λ l. AreNumbered t c.numbered.new.table.shapes l found.places numbers labels)
+    (sym c.in_ok-iface.ensures.weights) c.in_ok-shapes.ensures.numbered) in
     record {
       desorted = record {
         occurrences = occurrences_from 0 found.places found.sources.items found.targets.items;

@@ -15,8 +15,12 @@ pub overflow_cast-count : goal.overflow_cast-count
 overflow_cast-count c =
     let x : Place = (c.args.node, c.args.value.now) in
     let count : c.child_count-count.result < 2 ^ 32 =
-        omega (arith, c.requires.few, c.child_count-count.ensures.count,
-          ap length (leaves-children c.args.term.now x)) in
+    omega (
+      arith,
+      c.requires.few,
+      c.child_count-count.ensures.count,
+      ap length (leaves-children c.args.term.now x),
+    ) in
     grind (arith, count)
 
 pub returns-clause-shape : goal.returns-clause-shape
@@ -24,20 +28,24 @@ returns-clause-shape c =
     let t = c.args.term.now in
     let x : Place = (c.args.node, c.args.value.now) in
     let count : c.child_count-count.result ≡ length (leaves_of t x) =
-        c.child_count-count.ensures.count ∙ sym (ap length (leaves-children t x)) in
-    (c.in_ok-shape.shape, c.in_ok-push.ensures.items,
+    c.child_count-count.ensures.count ∙ sym (ap length (leaves-children t x)) in (
+      c.in_ok-shape.shape,
+      c.in_ok-push.ensures.items,
       ap (λ l. slice_get l c.in_ok-shape.shape) c.in_ok-add_labels.ensures.shapes
-      ∙ c.in_ok-shape.ensures.numbered
-      ∙ ap (λ k. Some (shape_at x k))
-      (c.kind.ensures ∙ ap (kind_of (node_at t x.0) x.1) count))
+          ∙ c.in_ok-shape.ensures.numbered
+          ∙ ap (λ k. Some (shape_at x k))
+          (c.kind.ensures ∙ ap (kind_of (node_at t x.0) x.1) count),
+    )
 
 pub returns-clause-labels : goal.returns-clause-labels
 returns-clause-labels c =
     let t = c.args.term.now in
     let x : Place = (c.args.node, c.args.value.now) in
     let count : c.child_count-count.result ≡ length (leaves_of t x) =
-        c.child_count-count.ensures.count ∙ sym (ap length (leaves-children t x)) in
-    let (ys, are, labelled) = c.in_ok-add_labels.ensures.labels in
-    (ys, are,
+    c.child_count-count.ensures.count ∙ sym (ap length (leaves-children t x)) in
+    let (ys, are, labelled) = c.in_ok-add_labels.ensures.labels in (
+      ys,
+      are,
       subst (λ k. AreLabelled c.add_labels.new.table.weights (node_at t x.0) x.1 k ys) count
-      labelled)
+          labelled,
+    )

@@ -1,4 +1,4 @@
-use Rattle.std.proofs.Common.{◌≡◌, take}
+use Rattle.std.proofs.Common.{take}
 use Rattle.desorting.specs.Numbered.{AreNumbered}
 use Rattle.desorting.proofs.numbering.numbered.Given as goal
 

@@ -4,8 +4,8 @@ use Rattle.structures.specs.Walk.{IsWalked}
 use Rattle.structures.proofs.Walked.{walked_start}
 use Rattle.structures.proofs.walking.walked.Goals as goal
 
-pub follow-requires-clause-starts : goal.follow-requires-clause-starts
-follow-requires-clause-starts c =
+pub follow-requires-clause-begun : goal.follow-requires-clause-begun
+follow-requires-clause-begun c =
     let t = c.args.term.now in
     let values = c.args.values.now in
     subst (λ ps. IsWalked t values ps c.in_ok-sources.sources.items c.in_ok-targets.targets.items 0)
