@@ -9,3 +9,4 @@ pub mod Chosen
 pub mod Sound
 mod Walked
 pub mod WalkEnds
+mod Unmerged

@@ -12,9 +12,11 @@
 mod children;
 mod counting;
 mod expand;
+mod laws;
 mod places;
 mod walking;
 
 pub use children::child_count;
+pub use laws::nothing_is_merged;
 pub use places::Places;
 pub use walking::{Structures, structures_of};
