@@ -6,7 +6,7 @@ use Rattle.edge_store.specs.Edges.{sources_of, labels_of, targets_of, edges_into
 use Rattle.edge_store.specs.Stored.{edges_of, IsStored}
 use Rattle.edge_store.proofs.Places.{places_each, places_every, places_ascend}
 
-sources-edges_of : {Label : Type 0} (s : List ℕ) (l : List Label) (t : List ℕ) →
+pub sources-edges_of : {Label : Type 0} (s : List ℕ) (l : List Label) (t : List ℕ) →
     length l ≡ length s → length t ≡ length s → sources_of (edges_of s l t) ≡ s
 sources-edges_of [] l t e f = refl
 sources-edges_of (s ∷ ss) [] t e f = absurd (omega arith)
@@ -14,7 +14,7 @@ sources-edges_of (s ∷ ss) (l ∷ ls) [] e f = absurd (omega arith)
 sources-edges_of (s ∷ ss) (l ∷ ls) (t ∷ ts) e f =
     ap (λ xs. s ∷ xs) (sources-edges_of ss ls ts (omega arith) (omega arith))
 
-labels-edges_of : {Label : Type 0} (s : List ℕ) (l : List Label) (t : List ℕ) →
+pub labels-edges_of : {Label : Type 0} (s : List ℕ) (l : List Label) (t : List ℕ) →
     length l ≡ length s → length t ≡ length s → labels_of (edges_of s l t) ≡ l
 labels-edges_of [] [] t e f = refl
 labels-edges_of [] (l ∷ ls) t e f = absurd (omega arith)
@@ -23,7 +23,7 @@ labels-edges_of (s ∷ ss) (l ∷ ls) [] e f = absurd (omega arith)
 labels-edges_of (s ∷ ss) (l ∷ ls) (t ∷ ts) e f =
     ap (λ xs. l ∷ xs) (labels-edges_of ss ls ts (omega arith) (omega arith))
 
-targets-edges_of : {Label : Type 0} (s : List ℕ) (l : List Label) (t : List ℕ) →
+pub targets-edges_of : {Label : Type 0} (s : List ℕ) (l : List Label) (t : List ℕ) →
     length l ≡ length s → length t ≡ length s → targets_of (edges_of s l t) ≡ t
 targets-edges_of [] l [] e f = refl
 targets-edges_of [] l (t ∷ ts) e f = absurd (omega arith)

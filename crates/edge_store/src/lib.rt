@@ -12,6 +12,7 @@
 
 mod arrays;
 mod edge;
+mod of_arrays;
 mod store;
 #[cfg(test)]
 mod tests;

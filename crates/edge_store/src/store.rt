@@ -14,13 +14,13 @@ use std::marker::Model;
 /// `from[x + 1]`, and the edges into it are the `numbers` from `into[x]` up to `into[x + 1]`.
 #[derive(Drop)]
 pub struct EdgeStore<A: Copy> {
-    count: u32,
-    sources: Vec<u32>,
-    labels: Vec<A>,
-    targets: Vec<u32>,
-    from: Vec<u32>,
-    into: Vec<u32>,
-    numbers: Vec<u32>,
+    pub(crate) count: u32,
+    pub(crate) sources: Vec<u32>,
+    pub(crate) labels: Vec<A>,
+    pub(crate) targets: Vec<u32>,
+    pub(crate) from: Vec<u32>,
+    pub(crate) into: Vec<u32>,
+    pub(crate) numbers: Vec<u32>,
 }
 
 impl<A: Copy> Model for EdgeStore<A> {

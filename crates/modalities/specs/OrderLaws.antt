@@ -10,22 +10,28 @@ use Rattle.std.specs.Cmp.{IsTotalOrder, IsEquivalence, IsPartialEquivalence, IsP
 use Rattle.std.specs.Cmp.Lexicographic.{slice_cmp}
 use Rattle.std.proofs.lemmas.Cmp.{nat_cmp_total, int_cmp_total, nat_list_cmp_total, on_total, then_total, eq_by_cmp_equiv, ranked, int_ranked, tied_itself}
 use Rattle.weights.specs.declared.ratio.Ratio.{Ratio}
+use Rattle.modalities.specs.declared.sums.Sums.{Sums}
 use Rattle.modalities.specs.declared.three.Three.{Three}
 use Rattle.modalities.specs.declared.three.Three.TheVariants.{Label, Trit, Trits, Tagged, Members, Triple}
-use Rattle.modalities.specs.Order.{kind_of, number_of, trits_of, zero_of, one_of, two_of, ratio_cmp, three_cmp}
+use Rattle.modalities.specs.Order.{kind_of, number_of, trits_of, sums_of, ratio_cmp, sums_cmp, three_cmp}
 
 pub ratio_total : IsTotalOrder ratio_cmp
 ratio_total =
     then_total (on_total (λ (r : Ratio). r.p) int_cmp_total)
     (on_total (λ (r : Ratio). r.q) nat_cmp_total)
 
+pub sums_total : IsTotalOrder sums_cmp
+sums_total =
+    then_total (on_total (λ (s : Sums). s.at_zero) ratio_total)
+    (then_total (on_total (λ (s : Sums). s.at_one) ratio_total)
+    (on_total (λ (s : Sums). s.at_two) ratio_total))
+
 pub three_total : IsTotalOrder three_cmp
 three_total =
     then_total (on_total kind_of nat_cmp_total)
     (then_total (on_total number_of nat_cmp_total)
     (then_total (on_total trits_of nat_list_cmp_total)
-    (then_total (on_total zero_of ratio_total)
-    (then_total (on_total one_of ratio_total) (on_total two_of ratio_total)))))
+    (on_total sums_of sums_total)))
 
 pub three_equivalence :
     IsPartialEquivalence (eq_by_cmp three_cmp) × IsEquivalence (eq_by_cmp three_cmp)
@@ -65,30 +71,38 @@ ratio_equal a b e =
     let bottom : a.q ≡ b.q = nat_equal a.q b.q both.1 in
     λ i. record { p = top i; q = bottom i }
 
+sums_equal : (a b : Sums) → sums_cmp a b ≡ Equal → a ≡ b
+sums_equal a b e =
+    let by_zero = then_equal _ _ e in
+    let by_one = then_equal _ _ by_zero.1 in
+    let at_zero = ratio_equal a.at_zero b.at_zero by_zero.0 in
+    let at_one = ratio_equal a.at_one b.at_one by_one.0 in
+    let at_two = ratio_equal a.at_two b.at_two by_one.1 in
+    λ i. record { at_zero = at_zero i; at_one = at_one i; at_two = at_two i }
+
 -- the first trit, and 0 of none
 abbrev first_of : List ℕ → ℕ
 first_of [] = 0
 first_of (t ∷ ts) = t
 
 -- the value of a kind with these numbers, trits and fractions
-abbrev made_of : ℕ → ℕ → List ℕ → Ratio → Ratio → Ratio → Three
-made_of zero n ts p q r = Label n
-made_of (suc zero) n ts p q r = Trit (first_of ts)
-made_of (suc (suc zero)) n ts p q r = Trits ts
-made_of (suc (suc (suc zero))) n ts p q r = Tagged n (first_of ts)
-made_of (suc (suc (suc (suc zero)))) n ts p q r = Members n
-made_of (suc (suc (suc (suc (suc k))))) n ts p q r = Triple p q r
+abbrev made_of : ℕ → ℕ → List ℕ → Sums → Three
+made_of zero n ts s = Label n
+made_of (suc zero) n ts s = Trit (first_of ts)
+made_of (suc (suc zero)) n ts s = Trits ts
+made_of (suc (suc (suc zero))) n ts s = Tagged n (first_of ts)
+made_of (suc (suc (suc (suc zero)))) n ts s = Members n
+made_of (suc (suc (suc (suc (suc k))))) n ts s = Triple s
 
 -- a value is made of what it has
 made_again :
-    (a : Three) →
-    made_of (kind_of a) (number_of a) (trits_of a) (zero_of a) (one_of a) (two_of a) ≡ a
+    (a : Three) → made_of (kind_of a) (number_of a) (trits_of a) (sums_of a) ≡ a
 made_again (Label n) = refl
 made_again (Trit t) = refl
 made_again (Trits ts) = refl
 made_again (Tagged i t) = refl
 made_again (Members bits) = refl
-made_again (Triple p q r) = refl
+made_again (Triple s) = refl
 
 -- values that the order does not tell apart are one
 three_equal : (a b : Three) → three_cmp a b ≡ Equal → a ≡ b
@@ -96,16 +110,12 @@ three_equal a b e =
     let by_kind = then_equal _ _ e in
     let by_number = then_equal _ _ by_kind.1 in
     let by_trits = then_equal _ _ by_number.1 in
-    let by_zero = then_equal _ _ by_trits.1 in
-    let by_one = then_equal _ _ by_zero.1 in
     let kind = nat_equal (kind_of a) (kind_of b) by_kind.0 in
     let number = nat_equal (number_of a) (number_of b) by_number.0 in
     let trits = list_equal (trits_of a) (trits_of b) by_trits.0 in
-    let zero_part = ratio_equal (zero_of a) (zero_of b) by_zero.0 in
-    let one_part = ratio_equal (one_of a) (one_of b) by_one.0 in
-    let two_part = ratio_equal (two_of a) (two_of b) by_one.1 in
+    let sums = sums_equal (sums_of a) (sums_of b) by_trits.1 in
     sym (made_again a)
-    ∙ (λ i. made_of (kind i) (number i) (trits i) (zero_part i) (one_part i) (two_part i))
+    ∙ (λ i. made_of (kind i) (number i) (trits i) (sums i))
     ∙ made_again b
 
 -- the order tells apart exactly what differs

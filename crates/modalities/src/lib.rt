@@ -6,8 +6,11 @@
 #![tactic(auto)]
 
 mod order;
+mod sums;
 mod three;
 mod trit_list;
+mod weighted;
 
+pub use sums::Sums;
 pub use three::Three;
 pub use trit_list::TritList;

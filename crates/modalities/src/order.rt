@@ -2,10 +2,11 @@
 ghost use Rattle.std.specs.Prelude.{◌≡◌, ◌↔◌, IsTrue, refl};
 ghost use Rattle.std.specs.Ordering.{as_partial_cmp, eq_by_cmp};
 ghost use Rattle.modalities.specs.declared.three.Three.{Three};
-ghost use Rattle.modalities.specs.Order.{kind_of, number_of, trits_of, zero_of, one_of, two_of};
-ghost use Rattle.modalities.specs.Order.{ratio_cmp, three_cmp};
+ghost use Rattle.modalities.specs.Order.{kind_of, number_of, trits_of, sums_of};
+ghost use Rattle.modalities.specs.Order.{ratio_cmp, sums_cmp, three_cmp};
 ghost use Rattle.modalities.specs.OrderLaws.{three_total, three_equivalence, three_partial_order};
 
+use crate::sums::Sums;
 use crate::three::Three;
 use std::cmp::Ordering;
 use weights::Ratio;
@@ -58,10 +59,7 @@ impl Ord for Three {
 fn compared(a: &Three, b: &Three) -> Ordering
     ensures { result ≡ three_cmp a.now b.now }
 {
-    let (a_zero, a_one, a_two) = fractions_of(a);
-    let (b_zero, b_one, b_two) = fractions_of(b);
-    let later = compare_ratios(&a_one, &b_one).then(compare_ratios(&a_two, &b_two));
-    let fractions = compare_ratios(&a_zero, &b_zero).then(later);
+    let fractions = compare_sums(&sums_of(a), &sums_of(b));
     let trits = trits_of(a).cmp(trits_of(b)).then(fractions);
     let numbers = number_of(a).cmp(&number_of(b)).then(trits);
     kind_of(a).cmp(&kind_of(b)).then(numbers)
@@ -77,7 +75,7 @@ fn kind_of(value: &Three) -> u8
         Three::Trits(_) => 2,
         Three::Tagged(_, _) => 3,
         Three::Members(_) => 4,
-        Three::Triple(_, _, _) => 5,
+        Three::Triple(_) => 5,
     }
 }
 
@@ -105,17 +103,27 @@ fn trits_of(value: &Three) -> &[u8]
     }
 }
 
-/// The fractions in a value, and 0 where there are none.
-fn fractions_of(value: &Three) -> (Ratio, Ratio, Ratio)
-    ensures zero { result.0 ≡ zero_of value.now }
-    ensures one { result.1 ≡ one_of value.now }
-    ensures two { result.2 ≡ two_of value.now }
+/// The sums in a value, and 0 where there are none.
+fn sums_of(value: &Three) -> Sums
+    ensures { result ≡ sums_of value.now }
 {
     let none = Ratio { p: 0, q: 1 };
     match value {
-        Three::Triple(zero, one, two) => (*zero, *one, *two),
-        _ => (none, none, none),
+        Three::Triple(sums) => *sums.get(),
+        _ => Sums {
+            at_zero: none,
+            at_one: none,
+            at_two: none,
+        },
     }
+}
+
+/// Compares the sums of 0, then those of 1, and then those of 2.
+fn compare_sums(a: &Sums, b: &Sums) -> Ordering
+    ensures { result ≡ sums_cmp a.now b.now }
+{
+    let later = compare_ratios(&a.at_one, &b.at_one).then(compare_ratios(&a.at_two, &b.at_two));
+    compare_ratios(&a.at_zero, &b.at_zero).then(later)
 }
 
 /// Compares numerators, and then denominators.

@@ -1,9 +1,10 @@
 // The values of one layer.
 ghost use Rattle.std.specs.Prelude.{◌≡◌, IfOk};
 
+use crate::sums::Sums;
 use crate::trit_list::TritList;
+use sqlite_items::Boxed;
 use std::alloc::{AllocError, Global};
-use weights::Ratio;
 
 /// A value of one layer over the three successors 0, 1 and 2. A trit is one of these numbers.
 #[derive(Debug, Drop)]
@@ -18,8 +19,9 @@ pub enum Three {
     Tagged(u32, u8),
     /// The set of successors: bit i is set exactly where i is in the set.
     Members(u8),
-    /// The weights of 0, 1 and 2.
-    Triple(Ratio, Ratio, Ratio),
+    /// The weights of 0, 1 and 2. They stand behind a pointer, since they are three times as large
+    /// as any other value.
+    Triple(Boxed<Sums>),
 }
 
 impl Three {
@@ -33,7 +35,7 @@ impl Three {
             Three::Trits(trits) => Ok(Three::Trits(trits.copied(alloc)?)),
             Three::Tagged(i, t) => Ok(Three::Tagged(*i, *t)),
             Three::Members(bits) => Ok(Three::Members(*bits)),
-            Three::Triple(zero, one, two) => Ok(Three::Triple(*zero, *one, *two)),
+            Three::Triple(sums) => Ok(Three::Triple(Boxed::new(alloc, *sums.get())?)),
         }
     }
 }

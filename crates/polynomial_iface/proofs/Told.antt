@@ -1,5 +1,6 @@
 -- The marks of a weight and the moved places tell the trits.
 use Rattle.std.proofs.Common.{◌≡◌, ◌+◌, ◌<◌, ◌==◌, ℕ, zero, suc, Bool, true, false, cond, List, [], ◌∷◌, length, map, min, replicate, refl, sym, ◌∙◌, ap, arith}
+use Rattle.std.specs.Prelude.{nat_le}
 use Rattle.std.proofs.lemmas.Bool.{eq-eqb}
 use Rattle.std.proofs.lemmas.Bool.Decides.{nat_tests}
 use Rattle.modalities.specs.declared.three.Three.{Three}
@@ -7,7 +8,7 @@ use Rattle.iface.specs.Trits.{AreTrits, each, picked, in_coarse}
 use Rattle.polynomial_iface.specs.declared.weight.Form.{Form}
 use Rattle.polynomial_iface.specs.declared.weight.PolyWeight.{PolyWeight}
 use Rattle.polynomial_iface.specs.Polys.{arity, numbers_from, fits_form, value_of_form, toward_of_form}
-use Rattle.polynomial_iface.specs.Places.{trits_from, head_is}
+use Rattle.polynomial_iface.specs.Places.{trits_from, head_is, after_place}
 use Rattle.polynomial_iface.specs.PolyLaws.{length-numbers_from, length-map}
 
 -- no place below the first is among those picked
@@ -60,6 +61,11 @@ module _
   pub count_is : length ts ≡ arity form
   count_is = one_each ∙ ap length fit ∙ length-numbers_from 0 (arity form)
 
+  pub marks_count : length weight.marks ≡ arity weight.form
+  marks_count =
+      ap (λ (w : PolyWeight). length w.marks) weight_is ∙ length-map (λ t. nat_le 1 t) ts
+      ∙ count_is ∙ ap arity (sym form_is)
+
   pub told : trits_from weight.marks 0 moved ≡ ts
   told =
       let marks_is : weight.marks ≡ in_coarse ts = ap (λ (w : PolyWeight). w.marks) weight_is in
@@ -69,13 +75,6 @@ module _
   module _ (found : List ℕ) (found_is : found ≡ trits_from weight.marks 0 moved) where
     pub found_told : found ≡ ts
     found_told = found_is ∙ told
-
-    pub found_count : length found ≡ arity weight.form
-    found_count = ap length found_told ∙ count_is ∙ ap arity (sym form_is)
-
-    pub without_count :
-        (void : List ℕ) → void ≡ map (λ t. min 1 t) found → length void ≡ arity weight.form
-    without_count void e = ap length e ∙ length-map (λ t. min 1 t) found ∙ found_count
 
     pub toward_is :
         (f : ℕ → Bool) (marks : List Bool) → marks ≡ map f found →
@@ -89,3 +88,9 @@ module _
     value_is x us f e h =
         h ∙ ap (value_of_form weight.form) (e ∙ ap f found_told)
         ∙ ap (λ k. value_of_form k (f ts)) form_is
+
+-- one trit for each mark
+pub length-trits_from :
+    (ms : List Bool) (at : ℕ) (moved : List ℕ) → length (trits_from ms at moved) ≡ length ms
+length-trits_from [] at moved = refl
+length-trits_from (m ∷ ms) at moved = ap suc (length-trits_from ms (at + 1) (after_place at moved))

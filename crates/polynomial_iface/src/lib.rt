@@ -15,5 +15,6 @@ mod polys;
 mod weight;
 
 pub use marks::Marks;
+pub use places::{MovedMarks, moved_marks, value_at};
 pub use polys::Polys;
 pub use weight::{Form, PolyShape, PolyWeight};

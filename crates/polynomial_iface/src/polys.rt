@@ -5,7 +5,7 @@ ghost use Rattle.polynomial_iface.specs.Polys.{agree_of_forms};
 ghost use Rattle.polynomial_iface.specs.PolyLaws.{poly_laws};
 
 use crate::marks::Marks;
-use crate::places::{marks_of, place_trits, value_at, without_two};
+use crate::places::{MovedMarks, moved_marks, value_at};
 use crate::weight::{PolyShape, PolyWeight};
 use iface::{Iface, Update, count_labels};
 use modalities::Three;
@@ -74,18 +74,18 @@ impl Iface for Polys {
     ) -> Result<Update<PolyWeight>, AllocError> {
         count_labels(moved.len(), steps);
         let form = weight.form;
-        let trits = place_trits(alloc, weight.marks.as_slice(), moved)?;
-        let without = without_two(alloc, trits.as_slice())?;
-        let part = marks_of(alloc, trits.as_slice(), 2)?;
-        let rest = marks_of(alloc, trits.as_slice(), 1)?;
-        weight.marks = Marks::from_vec(rest);
+        let marks = moved_marks(alloc, form, weight.marks.as_slice(), moved)?;
+        let MovedMarks {
+            rest,
+            part,
+            three,
+            void,
+        } = marks;
+        weight.marks = rest;
         Ok(Update {
-            part: PolyWeight {
-                form,
-                marks: Marks::from_vec(part),
-            },
-            three: value_at(form, trits),
-            void: value_at(form, without),
+            part: PolyWeight { form, marks: part },
+            three,
+            void,
         })
     }
 

@@ -2,7 +2,7 @@
 use crate::marks::Marks;
 
 /// What a structure is but for its successors.
-#[derive(Clone, Copy, Debug, PartialEq, Eq)]
+#[derive(Clone, Copy, Debug, PartialEq, Eq, Hash)]
 pub enum Form {
     /// The element of a set of constants, with no place.
     Constant(u64),

@@ -10,5 +10,5 @@
 mod sets;
 mod weight;
 
-pub use sets::Sets;
+pub use sets::{Sets, bits};
 pub use weight::{SetShape, SetWeight};

@@ -88,8 +88,8 @@ impl Iface for Sets {
     ghost laws = { set_laws };
 }
 
-/// The bits of a set of numbers 0, 1 and 2.
-fn bits(zero: bool, one: bool, two: bool) -> u8
+/// The bits of a set of numbers 0, 1 and 2, as `Three::Members` has them.
+pub fn bits(zero: bool, one: bool, two: bool) -> u8
     ensures { result ≡ cond zero 1 0 + cond one 2 0 + cond two 4 0 }
 {
     let low = if zero { 1 } else { 0 };

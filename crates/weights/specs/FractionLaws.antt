@@ -258,6 +258,34 @@ lowest_terms_is n d p q some is =
     one_lowest n d (lowest_terms n d).p p (lowest_terms n d).q q some
     (lowest_terms-IsLowest n d some) is
 
+-- a whole number is over 1 in lowest terms
+pub whole_lowest : (n : ℤ) → IsLowest n 1 n 1
+unfolding gcd_of
+whole_lowest n = record {
+  same = refl;
+  coprime = gcd_of-IsGcd (unsigned_abs n) 1;
+  positive = omega arith;
+}
+
+pub lowest_terms-whole : (n : ℤ) → lowest_terms n 1 ≡ ratio n 1
+lowest_terms-whole n =
+    let is = lowest_terms_is n 1 n 1 (omega arith) (whole_lowest n) in
+    ap (λ p. ratio p (lowest_terms n 1).q) is.0 ∙ ap (ratio n) is.1
+
+-- nothing is 0 over 1, whatever it was over
+pub none_lowest : (d : ℕ) → IsLowest (pos 0) d (pos 0) 1
+unfolding gcd_of
+none_lowest d = record {
+  same = ap pos (zero-mul d);
+  coprime = gcd_of-IsGcd 0 1;
+  positive = omega arith;
+}
+
+pub lowest_terms-none : (d : ℕ) → 1 ≤ d → lowest_terms (pos 0) d ≡ ratio (pos 0) 1
+lowest_terms-none d some =
+    let is = lowest_terms_is (pos 0) d (pos 0) 1 some (none_lowest d) in
+    ap (λ p. ratio p (lowest_terms (pos 0) d).q) is.0 ∙ ap (ratio (pos 0)) is.1
+
 -- two factors in a row are one
 times-times : (m : ℤ) (a b : ℕ) → m *ℤ pos a *ℤ pos b ≡ m *ℤ pos (a * b)
 times-times (pos m) a b = ap pos (mul_assoc m a b)

@@ -37,8 +37,24 @@ pub fn lcm_within(a: u64, b: u64, bound: u64) -> Option<u64>
     }
 }
 
-/// The fraction of a sum over a denominator from 1 on, in lowest terms.
+/// The fraction of a sum over a denominator from 1 on, in lowest terms. Nothing is divided where it
+/// is whole from the start.
 pub fn ratio_of(sum: i128, denominator: u64) -> Ratio
+    requires positive { 1 ≤ denominator }
+    ensures value { result ≡ lowest_terms sum denominator }
+    ensures lowest { IsLowest sum denominator result.p result.q }
+{
+    if denominator == 1 {
+        Ratio { p: sum, q: 1 }
+    } else if sum == 0 {
+        Ratio { p: 0, q: 1 }
+    } else {
+        divided_out(sum, denominator)
+    }
+}
+
+/// The fraction with the greatest common divisor taken out of both.
+fn divided_out(sum: i128, denominator: u64) -> Ratio
     requires positive { 1 ≤ denominator }
     ensures value { result ≡ lowest_terms sum denominator }
     ensures lowest { IsLowest sum denominator result.p result.q }

@@ -1,0 +1,15 @@
+mod Steps
+mod Merge
+mod WeightSteps
+mod BothWays
+mod Bridge
+mod Desorting
+mod Both
+mod Counts
+mod Weighed
+mod Systems
+mod Blocks
+mod Numbers
+mod Decodes
+mod Snoc
+mod Made

@@ -1,0 +1,5 @@
+pub mod Agreement
+pub mod Shapes
+pub mod Numbered
+pub mod Desorted
+pub mod Laws

@@ -1,0 +1,3 @@
+pub mod Structures
+pub mod Walk
+pub mod Laws
