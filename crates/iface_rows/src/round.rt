@@ -14,12 +14,14 @@ use std::sync::ledger::{Blank, Ledger};
 /// makes of them.
 #[derive(Drop)]
 pub struct Round<W> {
+    pub whole: W,
     pub three: Three,
     pub rest: W,
     pub update: Update<W>,
 }
 
-/// Takes a splitter out of the block of all states, at one structure.
+/// Takes a splitter out of the block of all states, at one structure. The weight towards all states
+/// is asked for a second time, since the round changes it.
 pub fn first_round<I: Iface, L: Ledger>(
     alloc: Global,
     iface: &I,
@@ -35,6 +37,8 @@ pub fn first_round<I: Iface, L: Ledger>(
     requires fewer { length moved.now < 2 ^ 26 }
     requires fit { I.fits iface.now shape.now labels.now }
     requires whole { (trits : List ℕ) × IsWhole labels.now moved.now trits }
+    ensures whole { IfOk result (λ r.
+        r.whole ≡ I.toward iface.now shape.now labels.now (map (λ _. true) labels.now)) }
     ensures three { IfOk result (λ r.
         r.three ≡ I.value iface.now shape.now labels.now (each 2 labels.now)) }
     ensures updated { IfOk result (λ r.
@@ -43,9 +47,11 @@ pub fn first_round<I: Iface, L: Ledger>(
         r.update.void shape.now labels.now trits) }
 {
     let mut steps = Steps::<L>::fresh(blank);
+    let (whole, _) = iface.init(alloc, shape, labels, &mut steps)?;
     let (mut rest, three) = iface.init(alloc, shape, labels, &mut steps)?;
     let update = iface.update(alloc, moved, &mut rest, &mut steps)?;
     Ok(Round {
+        whole,
         three,
         rest,
         update,

@@ -28,6 +28,7 @@ fn one_of_three_elements_moves(rt: HostRuntime) -> Result<(), Fail> {
     let set = SetShape { node: 0 };
     let blank = Blank::new(1);
     let row = first_round::<Sets, Brand>(alloc, &Sets, &set, &[(), (), ()], &[()], blank)?;
+    assert_eq!(rt; row.whole, elements(false, 3));
     assert_eq!(rt; row.three, Three::Members(0b100));
     assert_eq!(rt; row.rest, elements(true, 2));
     assert_eq!(rt; row.update.part, elements(true, 1));
@@ -41,6 +42,7 @@ fn an_empty_set_has_the_empty_value(rt: HostRuntime) -> Result<(), Fail> {
     let alloc = rt.alloc();
     let set = SetShape { node: 0 };
     let row = first_round::<Sets, Brand>(alloc, &Sets, &set, &[], &[], Blank::new(1))?;
+    assert_eq!(rt; row.whole, elements(false, 0));
     assert_eq!(rt; row.three, Three::Members(0));
     assert_eq!(rt; row.rest, elements(false, 0));
     assert_eq!(rt; row.update.three, Three::Members(0));
@@ -55,6 +57,7 @@ fn the_second_place_of_a_pair_moves(rt: HostRuntime) -> Result<(), Fail> {
         form: Form::Places(2),
     };
     let row = first_round::<Polys, Brand>(alloc, &Polys, &pair, &[0, 1], &[1], Blank::new(1))?;
+    assert_eq!(rt; row.whole.marks.as_slice(), [true, true].as_slice());
     assert_eq!(rt; row.three, trits(alloc, &[2, 2])?);
     assert_eq!(rt; row.rest.marks.as_slice(), [true, false].as_slice());
     assert_eq!(rt; row.update.part.marks.as_slice(), [false, true].as_slice());
@@ -120,11 +123,24 @@ fn a_sum_of_interfaces_takes_a_set_on_the_left(rt: HostRuntime) -> Result<(), Fa
     let labels = [Side::Left(()), Side::Left(()), Side::Left(())];
     let moved = [Side::Left(())];
     let row = first_round::<Sum, Brand>(alloc, &SUM, &set, &labels, &moved, Blank::new(1))?;
+    assert!(rt; matches!(row.whole, Side::Left(w) if w == elements(false, 3)));
     assert_eq!(rt; row.three, Three::Members(0b100));
     assert!(rt; matches!(row.rest, Side::Left(w) if w == elements(true, 2)));
     assert!(rt; matches!(row.update.part, Side::Left(w) if w == elements(true, 1)));
     assert_eq!(rt; row.update.three, Three::Members(0b110));
     assert_eq!(rt; row.update.void, Three::Members(0b010));
+    Ok(())
+}
+
+#[test]
+fn a_sum_of_interfaces_takes_the_empty_set_on_the_left(rt: HostRuntime) -> Result<(), Fail> {
+    let alloc = rt.alloc();
+    let set = Side::Left(SetShape { node: 0 });
+    let row = first_round::<Sum, Brand>(alloc, &SUM, &set, &[], &[], Blank::new(1))?;
+    assert!(rt; matches!(row.whole, Side::Left(w) if w == elements(false, 0)));
+    assert_eq!(rt; row.three, Three::Members(0));
+    assert_eq!(rt; row.update.three, Three::Members(0));
+    assert_eq!(rt; row.update.void, Three::Members(0));
     Ok(())
 }
 

@@ -24,11 +24,13 @@ use Rattle.layers.specs.Meanings.{shape_at, weight_at, side_of, label_by, fits_c
 pub any_laws :
     (d : ℕ) → 1 ≤ d → IfaceLaws any_node any_kin any_fits (any_value d) any_agree
 any_laws d positive =
+    let plain = group_laws (λ x. x) (pos 0) add integers_laws 1 (omega arith) in
+    let scaled = group_laws (λ x. x) (pos 0) add integers_laws d positive in
     either_laws _ _ _ _ _ _ _ _ _ _ (set_laws (record {}))
-    (either_laws _ _ _ _ _ _ _ _ _ _ (group_laws (λ x. x) (pos 0) add integers_laws 1 (omega arith))
-        (either_laws _ _ _ _ _ _ _ _ _ _ (group_laws (λ x. x) (pos 0) add integers_laws 1 (omega arith))
-            (either_laws _ _ _ _ _ _ _ _ _ _ (group_laws (λ x. x) (pos 0) add integers_laws d positive)
-                (either_laws _ _ _ _ _ _ _ _ _ _ (dist_laws d positive) (poly_laws (record {}))))))
+    (either_laws _ _ _ _ _ _ _ _ _ _ plain
+    (either_laws _ _ _ _ _ _ _ _ _ _ plain
+    (either_laws _ _ _ _ _ _ _ _ _ _ scaled
+    (either_laws _ _ _ _ _ _ _ _ _ _ (dist_laws d positive) (poly_laws (record {}))))))
 
 -- labels that suit a class suit what they stand for
 fits_side :

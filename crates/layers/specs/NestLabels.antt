@@ -1,4 +1,7 @@
 -- Labels of one structure stand on one side of the sum of interfaces, and are read off it.
+--     rights-map, lefts-map, all_right, all_left      one side at a time
+--     bag_labels, whole_labels, scaled_labels, dist_labels      the labels of a side
+--     bag_fit, whole_fit, scaled_fit, dist_fit, places_fit      labels that suit their side
 use Rattle.std.proofs.Common.{◌≡◌, ℕ, List, [], ◌∷◌, map, refl, sym, ap, ◌∙◌, subst}
 use Rattle.std.specs.Prelude.{ℤ}
 use Rattle.iface.specs.declared.side.Side.{Side}
@@ -7,19 +10,29 @@ use Rattle.iface.specs.Sides.{lefts, rights, AllLeft, AllRight}
 use Rattle.polynomial_iface.specs.Polys.{numbers_from}
 use Rattle.layers.specs.Nest.{AnyLabel, in_bag, in_whole, in_scaled, in_dist, at_place, place_labels}
 
-rights-map : {X B : Type 0} (A : Type 0) (h : X → B) (xs : List X) → rights {A = A} (map (λ x. Right (h x)) xs) ≡ map h xs
+-- what stands on the right is read off it, and all of it stands there
+rights-map :
+    {X B : Type 0} (A : Type 0) (h : X → B) (xs : List X) →
+    rights {A = A} (map (λ x. Right (h x)) xs) ≡ map h xs
 rights-map A h [] = refl
 rights-map A h (x ∷ xs) = ap (λ l. h x ∷ l) (rights-map A h xs)
 
-all_right : {X B : Type 0} (A : Type 0) (h : X → B) (xs : List X) → AllRight {A = A} (map (λ x. Right (h x)) xs)
+all_right :
+    {X B : Type 0} (A : Type 0) (h : X → B) (xs : List X) →
+    AllRight {A = A} (map (λ x. Right (h x)) xs)
 all_right A h [] = tt
 all_right A h (x ∷ xs) = all_right A h xs
 
-lefts-map : {X A : Type 0} (B : Type 0) (h : X → A) (xs : List X) → lefts {B = B} (map (λ x. Left (h x)) xs) ≡ map h xs
+-- and the same on the left
+lefts-map :
+    {X A : Type 0} (B : Type 0) (h : X → A) (xs : List X) →
+    lefts {B = B} (map (λ x. Left (h x)) xs) ≡ map h xs
 lefts-map B h [] = refl
 lefts-map B h (x ∷ xs) = ap (λ l. h x ∷ l) (lefts-map B h xs)
 
-pub all_left : {X A : Type 0} (B : Type 0) (h : X → A) (xs : List X) → AllLeft {B = B} (map (λ x. Left (h x)) xs)
+pub all_left :
+    {X A : Type 0} (B : Type 0) (h : X → A) (xs : List X) →
+    AllLeft {B = B} (map (λ x. Left (h x)) xs)
 all_left B h [] = tt
 all_left B h (x ∷ xs) = all_left B h xs
 
@@ -40,6 +53,7 @@ L4 = Side ℤ (Side ℤ ℕ)
 abbrev L5 : Type 0
 L5 = Side ℤ ℕ
 
+-- the labels of a structure with weights
 module _ {X : Type 0} (f : X → ℤ) (xs : List X) where
   abbrev at5 : X → L5
   at5 x = Left (f x)
@@ -134,7 +148,9 @@ module _ {X : Type 0} (f : X → ℤ) (xs : List X) where
             subst P (sym bag_labels) fit))
 
     pub whole_fit :
-        AllRight wholes × (AllRight (rights wholes) × (AllLeft (rights (rights wholes)) × P (lefts (rights (rights wholes)))))
+        AllRight wholes
+        × (AllRight (rights wholes)
+        × (AllLeft (rights (rights wholes)) × P (lefts (rights (rights wholes)))))
     whole_fit =
         (all_right _ whole2 xs,
           (subst AllRight (sym wholes1) (all_right _ at3 xs),
@@ -142,7 +158,11 @@ module _ {X : Type 0} (f : X → ℤ) (xs : List X) where
               subst P (sym whole_labels) fit)))
 
     pub scaled_fit :
-        AllRight scaleds × (AllRight (rights scaleds) × (AllRight (rights (rights scaleds)) × (AllLeft (rights (rights (rights scaleds))) × P (lefts (rights (rights (rights scaleds)))))))
+        AllRight scaleds
+        × (AllRight (rights scaleds)
+        × (AllRight (rights (rights scaleds))
+        × (AllLeft (rights (rights (rights scaleds)))
+        × P (lefts (rights (rights (rights scaleds)))))))
     scaled_fit =
         (all_right _ scaled2 xs,
           (subst AllRight (sym scaleds1) (all_right _ scaled3 xs),
@@ -151,7 +171,12 @@ module _ {X : Type 0} (f : X → ℤ) (xs : List X) where
                 subst P (sym scaled_labels) fit))))
 
     pub dist_fit :
-        AllRight dists × (AllRight (rights dists) × (AllRight (rights (rights dists)) × (AllRight (rights (rights (rights dists))) × (AllLeft (rights (rights (rights (rights dists)))) × P (lefts (rights (rights (rights (rights dists)))))))))
+        AllRight dists
+        × (AllRight (rights dists)
+        × (AllRight (rights (rights dists))
+        × (AllRight (rights (rights (rights dists)))
+        × (AllLeft (rights (rights (rights (rights dists))))
+        × P (lefts (rights (rights (rights (rights dists)))))))))
     dist_fit =
         (all_right _ dist2 xs,
           (subst AllRight (sym dists1) (all_right _ dist3 xs),
@@ -160,6 +185,7 @@ module _ {X : Type 0} (f : X → ℤ) (xs : List X) where
                 (subst AllLeft (sym dists4) (all_left _ f xs),
                   subst P (sym dist_labels) fit)))))
 
+-- the labels of a polynomial structure
 module _ (k n : ℕ) (same : k ≡ n) where
   abbrev place5 : ℕ → L5
   place5 i = Right i
@@ -192,7 +218,12 @@ module _ (k n : ℕ) (same : k ≡ n) where
   places5 = ap rights places4 ∙ rights-map ℤ (λ i. i) all ∙ map_none all
 
   pub places_fit :
-      AllRight (place_labels k) × (AllRight (rights (place_labels k)) × (AllRight (rights (rights (place_labels k))) × (AllRight (rights (rights (rights (place_labels k)))) × (AllRight (rights (rights (rights (rights (place_labels k))))) × (rights (rights (rights (rights (rights (place_labels k))))) ≡ numbers_from 0 n)))))
+      AllRight (place_labels k)
+      × (AllRight (rights (place_labels k))
+      × (AllRight (rights (rights (place_labels k)))
+      × (AllRight (rights (rights (rights (place_labels k))))
+      × (AllRight (rights (rights (rights (rights (place_labels k)))))
+      × (rights (rights (rights (rights (rights (place_labels k))))) ≡ numbers_from 0 n)))))
   places_fit =
       (all_right _ place2 all,
         (subst AllRight (sym places1) (all_right _ place3 all),

@@ -1,11 +1,18 @@
 // Places as the bits of a number.
-ghost use Rattle.std.specs.Prelude.{◌≡◌, ◌+◌, ◌<◌, ◌≤◌, ◌==◌, ◌^◌, IfOk, cond, length};
+ghost use Rattle.std.specs.Prelude.{◌≡◌, ◌<◌, ◌==◌, ◌^◌, IfOk, cond, nat_le};
 ghost use Rattle.layers.specs.Bits.{powers, trits_of};
 ghost use Rattle.polynomial_iface.specs.Polys.{arity, value_of_form};
 
 use modalities::Three;
 use polynomial_iface::{Form, value_at};
 use std::alloc::{AllocError, Global};
+
+/// A number of 64 bits has one for each place of the form.
+pub(crate) fn has_few_places(form: Form) -> bool
+    ensures { result ≡ nat_le (arity form) 64 }
+{
+    form.places() <= 64
+}
 
 /// The number with these bits.
 pub(crate) fn bits_at(places: &[u32]) -> u64

@@ -5,7 +5,7 @@ ghost use Rattle.layers.specs.declared.shape.Class.TheVariants as class;
 ghost use Rattle.layers.specs.Meanings.{class_at, fits_layer, wide_toward, value_layer};
 
 use crate::layers::Layers;
-use crate::marks::{bits_at, value_by_bits};
+use crate::marks::{bits_at, has_few_places, value_by_bits};
 use crate::shape::Class;
 use crate::weight::{MarksWeight, Opened, PlacesWeight, SumsWeight};
 use modalities::Three;
@@ -87,7 +87,7 @@ impl Layers {
         ensures three { IfOk result (λ r. r.1 ≡ value_layer self.now.denominator
             self.now.shapes.items self.now.weights.items shape labels.now (each 2 labels.now)) }
     {
-        if form.places() <= 64 {
+        if has_few_places(form) {
             let marks = bits_at(labels);
             let three = value_by_bits(alloc, form, 0, marks)?;
             Ok((Opened::Places(PlacesWeight { shape, marks }), three))

@@ -35,8 +35,8 @@ impl LayerTable {
         }
     }
 
-    /// The number of a shape. One that has none yet gets the next, of which there are 2^32 - 1; where
-    /// these or memory are wanting, nothing changes.
+    /// The number of a shape. One that has none yet gets the next, of which there are 2^32 - 1;
+    /// where these or memory are wanting, nothing changes.
     pub fn shape(&mut self, node: u32, kind: Kind) -> Result<u32, AllocError>
         ensures numbered { IfOk result (λ r.
             slice_get self.new.shapes r ≡ Some (record { node = node; kind = kind })) }

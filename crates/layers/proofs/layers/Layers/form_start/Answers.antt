@@ -1,5 +1,5 @@
-use Rattle.std.proofs.Common.{◌∙◌, ap, length, arith, sym}
-use Rattle.std.proofs.lemmas.Bool.{le-leb, lt-leb}
+use Rattle.std.proofs.Common.{◌∙◌, ap, length, sym}
+use Rattle.std.specs.Prelude.{nat_le}
 use Rattle.polynomial_iface.specs.PolyLaws.{length-each}
 use Rattle.polynomial_iface.specs.Polys.{arity}
 use Rattle.polynomial_iface.proofs.Told.{replicate-each, replicate-true}
@@ -11,20 +11,20 @@ pub bits_at-marks-requires : goal.bits_at-marks-requires
 bits_at-marks-requires c =
     let k = class_at c.args.self.now.shapes.items c.args.shape in
     let is = of_form k c.args.form c.requires.class in
-    let places = c.places.ensures ∙ ap arity is.1 in
+    let places = ap (λ f. nat_le (arity f) 64) (sym is.1) ∙ sym c.has_few_places.ensures in
     record {
       few =
           few_marks c.args.self.now.weights.items k is.0 c.args.labels.now c.requires.fit
-          (le-leb (arity (form_of k)) 64 (omega (arith, places, c.if-places-le64.true)));
+          (places ∙ c.if-has_few_places.true);
     }
 
 pub returns-in_ok-three-clause-weight : goal.returns-in_ok-three-clause-weight
 returns-in_ok-three-clause-weight c =
     let k = class_at c.args.self.now.shapes.items c.args.shape in
     let is = of_form k c.args.form c.requires.class in
-    let places = c.places.ensures ∙ ap arity is.1 in
+    let places = ap (λ f. nat_le (arity f) 64) (sym is.1) ∙ sym c.has_few_places.ensures in
     all_weight c.args.self.now.weights.items k is.0 c.args.labels.now c.requires.fit
-    (le-leb (arity (form_of k)) 64 (omega (arith, places, c.if-places-le64.true)))
+    (places ∙ c.if-has_few_places.true)
     c.args.shape _ c.bits_at-marks.ensures
 
 pub returns-in_ok-three-clause-three : goal.returns-in_ok-three-clause-three
@@ -47,9 +47,9 @@ pub returns-in_ok-marks-clause-weight : goal.returns-in_ok-marks-clause-weight
 returns-in_ok-marks-clause-weight c =
     let k = class_at c.args.self.now.shapes.items c.args.shape in
     let is = of_form k c.args.form c.requires.class in
-    let places = c.places.ensures ∙ ap arity is.1 in
+    let places = ap (λ f. nat_le (arity f) 64) (sym is.1) ∙ sym c.has_few_places.ensures in
     all_many c.args.self.now.weights.items k is.0 c.args.labels.now c.requires.fit
-    (lt-leb (arity (form_of k)) 64 (omega (arith, places, c.if-places-le64.false)))
+    (places ∙ c.if-has_few_places.false)
     c.args.shape _
     (c.from_vec.ensures.all_of_them ∙ c.in_ok-marks.ensures.items_if_clones_equal (λ y e. e)
     ∙ replicate-true c.args.labels.now)

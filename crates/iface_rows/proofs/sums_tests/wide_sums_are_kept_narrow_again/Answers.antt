@@ -1,0 +1,20 @@
+use Rattle.std.proofs.Common.{[], ◌∷◌, refl, arith}
+use Rattle.iface_rows.proofs.sums_tests.wide_sums_are_kept_narrow_again.Goals as goal
+
+pub two_rounds-requires-clause-twice : goal.two_rounds-requires-clause-twice
+two_rounds-requires-clause-twice g c = (
+  2 ∷ 1 ∷ 1 ∷ [],
+  0 ∷ 2 ∷ 1 ∷ [],
+  record {
+    whole = record {
+      one_each = refl;
+      are_trits = (omega arith, (omega arith, (omega arith, tt)));
+      all_coarse = refl;
+      moved_is = refl;
+    };
+    one_each = refl;
+    are_trits = (omega arith, (omega arith, (omega arith, tt)));
+    within_rest = refl;
+    second_is = refl;
+  },
+)
