@@ -5,7 +5,7 @@
 
 What it looks at: each wrong body that a page names is an edit of the crate that the page is about, and
 each edit is named on its crate's page; each label in a table of a crate's page is one of that crate's;
-the map of the README has the crates of crates.txt in their order; what the README shows of a session is
+the map of the README has the crates of crates.txt in their order; what the README shows of a run is
 what the stored run of the program prints; docs/WORDS.md is what tools/words.py prints.
 """
 import os
@@ -77,10 +77,10 @@ def top_page(page, edits):
                     yield f"{page}: no edit `{name}`"
 
 
-def session():
+def shown_run():
     shown = re.search(r"\$ \./copar blocks examples/game\.copar\n(.*?)\$ ", text_of("README.md"), re.S)
     if not shown or shown.group(1) != text_of("crates", "copar", "stdout"):
-        yield "README.md: the session is not the stored run of crates/copar"
+        yield "README.md: the run is not the stored one of crates/copar"
     if text_of("examples", "game.copar") != text_of("crates", "copar", "data", "game.copar"):
         yield "crates/copar/data/game.copar: not the example"
 
@@ -96,7 +96,7 @@ def findings():
     mapped = re.findall(r"^\| \[(\w+)\]\(crates/", text_of("README.md"), re.M)
     if mapped != names:
         yield "README.md: the map has not the crates of crates.txt in their order"
-    yield from session()
+    yield from shown_run()
     printed = subprocess.run([sys.executable, os.path.join(ROOT, "tools", "words.py")],
                              capture_output=True, text=True, check=True).stdout
     if printed != text_of("docs", "WORDS.md"):

@@ -3,8 +3,8 @@
 //! Shape: the words are read by `clap` as one simple command, `ACTION FILE REST.. --stats`; a table
 //! of commands says which lines of that form are requests.
 //! Seen as: a list of words, each a list of bytes, and a request (`specs/Requests.antt`).
-//! Limits: a command that is not in the table makes no request. What is said of words that make none
-//! is told by tests alone.
+//! Limits: a command that is not in the table makes no request. What is said of words that make
+//! none is told by tests alone.
 #![tactic(auto)]
 
 mod laws;

@@ -46,8 +46,8 @@ fn request_of<'a>(line: &Line<'a>) -> Option<Request<'a>>
     }
 }
 
-/// The request that the words make, or None where they are of no row of the table. The error is want
-/// of memory.
+/// The request that the words make, or None where they are of no row of the table. The error is
+/// want of memory.
 pub fn asked_by<'a>(alloc: Global, words: &'a WordList) -> Result<Option<Request<'a>>, AllocError>
     ensures asked { IfOk result (λ request. option_map denoted request ≡ asked words.now) }
 {

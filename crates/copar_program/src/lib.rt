@@ -1,7 +1,7 @@
 //! The program: the real outside around the top call, and the number that it ends with.
 //!
-//! Shape: the words of the command line go into a register, and the top call runs over the files and
-//! the writers of the system. It stands apart from `main`, so that other programs can run many
+//! Shape: the words of the command line go into a register, and the top call runs over the files
+//! and the writers of the system. It stands apart from `main`, so that other programs can run many
 //! command lines one after another.
 //! Limits: the adapters tell no content, so nothing is claimed of what a real file holds or what a
 //! terminal takes. They do count each error of the system, which is what the top call needs.

@@ -1,7 +1,7 @@
 -- The quotient by behavioural equivalence, and its text. Nothing here knows how it is found.
 --
--- AreClasses c labels      == classes numbered by their first states, with one number for two states
---                             exactly if they are equivalent
+-- AreClasses c labels      == classes numbered by their first states, with one number for two
+--                             states exactly if they are equivalent
 -- IsQuotientOf c b d       == d is the quotient of c by b
 -- canonical d              == the canonical text of d
 -- IsMinimised c output     == the output is the canonical text of the quotient by equivalence

@@ -11,7 +11,7 @@
 -- Answers o request rise ending whole
 --                           == the whole output of the request, and the status that comes with it
 -- Ends request o counts rise s output
---                           == the request may end so: why, what was written, how many steps it took
+--                           == the request may end so: why, what was written, how many steps
 -- Ran words o counts rise s output
 --                           == the same of the words
 -- IsMade, IsHalted          == how a request stands before its output is written

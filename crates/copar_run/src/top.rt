@@ -74,8 +74,8 @@ fn output_over<F: Folder>(
 ) -> Result<Vec<u8>, Status>
     ensures made { IfOk result (λ output. IsMade (denoted request.entry) (met (F.files folder.old)
         (F.faults folder.old) (F.faults folder.new)) 0 output.items) }
-    ensures halted { IfErr result (λ status. IsHalted (denoted request.entry) (met (F.files folder.old)
-        (F.faults folder.old) (F.faults folder.new)) status) }
+    ensures halted { IfErr result (λ status. IsHalted (denoted request.entry)
+        (met (F.files folder.old) (F.faults folder.old) (F.faults folder.new)) status) }
     ensures files_stay { F.files folder.new ≡ F.files folder.old }
     ensures no_count_falls { (other : List ℕ) →
         F.faults folder.old other ≤ F.faults folder.new other }
@@ -129,9 +129,9 @@ fn ended<F: Folder, O: Sink>(alloc: Global, words: &WordList, folder: &mut F, ou
     }
 }
 
-/// Does all that the program does but for the line on `err`: it answers the words over the folder on
-/// `out`, and says how that ended. The words are those behind the program's name. The count of steps
-/// is at most 2^60.
+/// Does all that the program does but for the line on `err`: it answers the words over the folder
+/// on `out`, and says how that ended. The words are those behind the program's name. The count of
+/// steps is at most 2^60.
 pub fn answer<F: Folder, O: Sink, L: Ledger>(
     alloc: Global,
     words: &WordList,

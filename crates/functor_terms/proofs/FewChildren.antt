@@ -14,8 +14,10 @@ AreFew (b ∷ nodes) = (length b.children ≤ length nodes) × AreFew nodes
 
 few-append : (xs ys : Nodes) → AreFew xs → AreFew ys → AreFew (xs ++ ys)
 few-append [] ys a b = b
-few-append (x ∷ xs) ys a b = (let w = a.0 in omega (arith, length-append xs ys),
-    few-append xs ys a.1 b)
+few-append (x ∷ xs) ys a b = (
+  let w = a.0 in omega (arith, length-append xs ys),
+  few-append xs ys a.1 b,
+)
 
 abbrev IsFew : Part → Type 0
 IsFew part = (0 < length part.0) × AreFew part.0
@@ -57,9 +59,9 @@ pub children-few : (t : Nodes) → IsTerm t → (p : ℕ) → length (children_a
 children-few t is p =
     let few : AreFew is.part.0 = (part-few depth_limit is.part is.within.built).1 in
     let w : length (children_at (placed 0 is.part.0) p) ≤ length is.part.0 =
-        placed-few 0 is.part.0 few p in
+    placed-few 0 is.part.0 few p in
     let e : length (children_at t p) ≡ length (children_at (placed 0 is.part.0) p) =
-        ap (λ (u : Nodes). length (children_at u p)) is.numbered in
+    ap (λ (u : Nodes). length (children_at u p)) is.numbered in
     let size : length t ≡ length is.part.0 = ap length is.numbered ∙ placed-length 0 is.part.0 in
     let all = (term-some t is).1 in
     omega arith

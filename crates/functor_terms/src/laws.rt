@@ -8,8 +8,8 @@ pub fn one_reading()
     ensures term { OnlyTerms }
 {}
 
-/// The canonical text of a term spells it. Each node opens one pair of parentheses at most, and a term
-/// has at most 32 levels.
+/// The canonical text of a term spells it. Each node opens one pair of parentheses at most, and a
+/// term has at most 32 levels.
 pub fn texts_spell_terms()
     ensures { TextsSpell }
 {}

@@ -5,8 +5,8 @@
 //! silent on them, as a real disk does. Both count their faults, so that a caller who is told
 //! `Failed` can show that a count rose. A counter of steps is seen as its count.
 //! Numbers: counts of calls and faults have 64 bits, and stay at the greatest once they are there.
-//! Limits: one call of a trait moves one piece; `read_all` and `put_all` move whole files of at most
-//! 67,108,864 bytes, and whole texts.
+//! Limits: one call of a trait moves one piece; `read_all` and `put_all` move whole files of at
+//! most 67,108,864 bytes, and whole texts.
 #![tactic(auto)]
 
 mod folder;

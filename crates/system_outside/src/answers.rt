@@ -5,8 +5,8 @@ ghost use Rattle.system_outside.specs.Answers.{piece_for, wrote_for};
 use outside::{Piece, Wrote};
 use std::io;
 
-/// What an answer of the system to a read becomes: no byte is the end of the file, and an error is a
-/// failure.
+/// What an answer of the system to a read becomes: no byte is the end of the file, and an error is
+/// a failure.
 pub fn piece_of(read: io::Result<usize>) -> Piece
     ensures { result ≡ piece_for read }
 {

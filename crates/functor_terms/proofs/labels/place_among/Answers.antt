@@ -7,19 +7,19 @@ use Rattle.functor_terms.proofs.labels.place_among.Goals as goal
 pub returns-in-Some : goal.returns-in-Some
 returns-in-Some c =
     let found : c.position.result ≡ position
-        (λ known. is_same_word c.args.word.now known.now) c.args.words.now =
-        position_from_yields_List (λ known. is_same_word c.args.word.now known.now) _ _
-            c.position.result
-        c.position.ensures.ran (YieldsList-from_slice _ c.iter.ensures.rest)
-            (λ x b q k. search rules) in
+    (λ known. is_same_word c.args.word.now known.now) c.args.words.now =
+    position_from_yields_List (λ known. is_same_word c.args.word.now known.now) _ _
+    c.position.result
+    c.position.ensures.ran (YieldsList-from_slice _ c.iter.ensures.rest)
+    (λ x b q k. search rules) in
     sym c.in-Some.is ∙ found
 
 pub returns-in-None : goal.returns-in-None
 returns-in-None c =
     let found : c.position.result ≡ position
-        (λ known. is_same_word c.args.word.now known.now) c.args.words.now =
-        position_from_yields_List (λ known. is_same_word c.args.word.now known.now) _ _
-            c.position.result
-        c.position.ensures.ran (YieldsList-from_slice _ c.iter.ensures.rest)
-            (λ x b q k. search rules) in
+    (λ known. is_same_word c.args.word.now known.now) c.args.words.now =
+    position_from_yields_List (λ known. is_same_word c.args.word.now known.now) _ _
+    c.position.result
+    c.position.ensures.ran (YieldsList-from_slice _ c.iter.ensures.rest)
+    (λ x b q k. search rules) in
     sym c.in-None.is ∙ found

@@ -11,9 +11,9 @@ returns-clause-few c =
     let nodes : Nodes = c.self.inside.nodes.items in
     let b : Branch = c.index.result.now in
     let inside : c.args.p < length nodes =
-        subst (λ (t : Nodes). c.args.p < length t) (sym c.self.view_is) c.requires in
+    subst (λ (t : Nodes). c.args.p < length t) (sym c.self.view_is) c.requires in
     let at : slice_get nodes c.args.p ≡ Some b =
-        slice_get_read nodes (length nodes) c.args.p b refl inside c.index.ensures in
+    slice_get_read nodes (length nodes) c.args.p b refl inside c.index.ensures in
     let same : children_at nodes c.args.p ≡ c.as_slice.result.now =
-        ap (λ o. option_map_or (λ b. b.children) o []) at ∙ sym c.as_slice.ensures in
+    ap (λ o. option_map_or (λ b. b.children) o []) at ∙ sym c.as_slice.ensures in
     subst (λ (qs : List ℕ). length qs ≤ 256) same (children-few nodes c.self.invariant c.args.p)
