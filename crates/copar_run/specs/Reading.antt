@@ -31,7 +31,7 @@ pub data Fault : Type 0 where
   Unbuilt : Fault
 
 -- it is the first fault of the bytes: no line stands there but skipped ones; the first row that has
--- a fault is of this line and kind; or a line stands there, and the lines are not `P X` and flat
+-- a fault is of this line and kind; or lines stand there that are not `P X` and flat lines
 abbrev pub IsFault : List ℕ → Fault → Type 0
 IsFault bytes (Fault.NoFunctor line) =
     (lines_of bytes ≡ []) × (line ≡ feed_count bytes + 1)

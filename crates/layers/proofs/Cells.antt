@@ -76,7 +76,7 @@ places_weight ws class.Set s ls ms w e = cc
 places_weight ws (class.Sums b) s ls ms w e = cc
 places_weight ws (class.Form f) s ls ms w e =
     let is = as_bits (nat_le (arity f) 64) w (record { shape = s; marks = bits_of ms })
-        (record { shape = s; marks = ms }) e in
+    (record { shape = s; marks = ms }) e in
     (refl, is.1, is.0)
 
 pub marks_weight :
@@ -88,7 +88,7 @@ marks_weight ws class.Set s ls ms w e = cc
 marks_weight ws (class.Sums b) s ls ms w e = cc
 marks_weight ws (class.Form f) s ls ms w e =
     let is = one_by_one (nat_le (arity f) 64) w (record { shape = s; marks = ms })
-        (record { shape = s; marks = bits_of ms }) e in
+    (record { shape = s; marks = bits_of ms }) e in
     (refl, is.1, is.0)
 
 pub sums_weight :
@@ -250,116 +250,116 @@ module _
     (ws : List ℤ) (k : Class) (s : ℕ) (ls ts : List ℕ) (fit : fits_class ws k ls)
     (one_each : length ts ≡ length ls) (trits : AreTrits ts) (w : PlacesWeight) (moved : List ℕ)
     (weight_is : opened.Places w ≡ wide_of ws k s ls (in_coarse ts)) (moved_is : moved ≡ picked ls ts)
-    where
-  is_form : k ≡ class.Form (form_of k)
-  is_form = (places_weight ws k s ls (in_coarse ts) w weight_is).0
+  where
+    is_form : k ≡ class.Form (form_of k)
+    is_form = (places_weight ws k s ls (in_coarse ts) w weight_is).0
 
-  small : nat_le (arity (form_of k)) 64 ≡ true
-  small = (places_weight ws k s ls (in_coarse ts) w weight_is).2
+    small : nat_le (arity (form_of k)) 64 ≡ true
+    small = (places_weight ws k s ls (in_coarse ts) w weight_is).2
 
-  pub shape_is : w.shape ≡ s
-  shape_is =
-      ap (λ (v : PlacesWeight). v.shape) (places_weight ws k s ls (in_coarse ts) w weight_is).1
+    pub shape_is : w.shape ≡ s
+    shape_is =
+        ap (λ (v : PlacesWeight). v.shape) (places_weight ws k s ls (in_coarse ts) w weight_is).1
 
-  marks_is : w.marks ≡ bits_of (in_coarse ts)
-  marks_is =
-      ap (λ (v : PlacesWeight). v.marks) (places_weight ws k s ls (in_coarse ts) w weight_is).1
+    marks_is : w.marks ≡ bits_of (in_coarse ts)
+    marks_is =
+        ap (λ (v : PlacesWeight). v.marks) (places_weight ws k s ls (in_coarse ts) w weight_is).1
 
-  count : length ts ≡ arity (form_of k)
-  count = one_each ∙ as_many ws k is_form ls fit
+    count : length ts ≡ arity (form_of k)
+    count = one_each ∙ as_many ws k is_form ls fit
 
-  part_is : powers moved ≡ bits_of (in_splitter ts)
-  part_is =
-      ap powers (moved_is ∙ ap (λ xs. picked xs ts)
-      (form_fits ws k is_form ls fit ∙ ap (numbers_from 0) (sym count)))
-      ∙ powers-picked 0 ts ∙ once (bits_of (in_splitter ts))
+    part_is : powers moved ≡ bits_of (in_splitter ts)
+    part_is =
+        ap powers (moved_is ∙ ap (λ xs. picked xs ts)
+        (form_fits ws k is_form ls fit ∙ ap (numbers_from 0) (sym count)))
+        ∙ powers-picked 0 ts ∙ once (bits_of (in_splitter ts))
 
-  pub few_moved : powers moved < 2 ^ 64
-  few_moved =
-      let below : arity (form_of k) ≤ 64 = leb-true (arity (form_of k)) 64 small in
-      let many : length (in_splitter ts) ≡ length ts = length-map ts (λ t. t == 2) in
-      rw part_is (few_bits (in_splitter ts)
-      (omega (arith, many, count, below)))
+    pub few_moved : powers moved < 2 ^ 64
+    few_moved =
+        let below : arity (form_of k) ≤ 64 = leb-true (arity (form_of k)) 64 small in
+        let many : length (in_splitter ts) ≡ length ts = length-map ts (λ t. t == 2) in
+        rw part_is (few_bits (in_splitter ts)
+        (omega (arith, many, count, below)))
 
-  pub fewer : powers moved ≤ w.marks
-  fewer = rw (part_is, marks_is) (omega (arith, bits_parts ts trits))
+    pub fewer : powers moved ≤ w.marks
+    fewer = rw (part_is, marks_is) (omega (arith, bits_parts ts trits))
 
-  rest_now : w.marks - powers moved ≡ bits_of (in_rest ts)
-  rest_now = rw (part_is, marks_is) (omega (arith, bits_parts ts trits))
+    rest_now : w.marks - powers moved ≡ bits_of (in_rest ts)
+    rest_now = rw (part_is, marks_is) (omega (arith, bits_parts ts trits))
 
-  pub rest_is :
-      (r m : ℕ) → r ≡ w.shape → m ≡ w.marks - powers moved →
-      opened.Places (record { shape = r; marks = m }) ≡ wide_of ws k s ls (in_rest ts)
-  rest_is r m r_is m_is =
-      rw (r_is, shape_is, m_is, rest_now) (form_toward ws k is_form small s ls (in_rest ts))
+    pub rest_is :
+        (r m : ℕ) → r ≡ w.shape → m ≡ w.marks - powers moved →
+        opened.Places (record { shape = r; marks = m }) ≡ wide_of ws k s ls (in_rest ts)
+    rest_is r m r_is m_is =
+        rw (r_is, shape_is, m_is, rest_now) (form_toward ws k is_form small s ls (in_rest ts))
 
-  pub part_weight :
-      (r m : ℕ) → r ≡ w.shape → m ≡ powers moved →
-      opened.Places (record { shape = r; marks = m }) ≡ wide_of ws k s ls (in_splitter ts)
-  part_weight r m r_is m_is =
-      rw (r_is, shape_is, m_is, part_is) (form_toward ws k is_form small s ls (in_splitter ts))
+    pub part_weight :
+        (r m : ℕ) → r ≡ w.shape → m ≡ powers moved →
+        opened.Places (record { shape = r; marks = m }) ≡ wide_of ws k s ls (in_splitter ts)
+    part_weight r m r_is m_is =
+        rw (r_is, shape_is, m_is, part_is) (form_toward ws k is_form small s ls (in_splitter ts))
 
-  pub three_is :
-      (d m n : ℕ) (f : Form) (x : Three) → f ≡ form_of k → m ≡ w.marks - n → n ≡ powers moved →
-      x ≡ value_of_form f (trits_of (arity f) m n) →
-      x ≡ value_of_class d ws k ls ts
-  three_is d m n f x f_is m_is n_is e =
-      e ∙ ap (λ g. value_of_form g (trits_of (arity g) m n)) f_is
-      ∙ ap (value_of_form (form_of k))
-      (rw (m_is, n_is, rest_now, part_is, sym count) (trits-parts ts trits))
-      ∙ form_value k is_form d ws ls ts
+    pub three_is :
+        (d m n : ℕ) (f : Form) (x : Three) → f ≡ form_of k → m ≡ w.marks - n → n ≡ powers moved →
+        x ≡ value_of_form f (trits_of (arity f) m n) →
+        x ≡ value_of_class d ws k ls ts
+    three_is d m n f x f_is m_is n_is e =
+        e ∙ ap (λ g. value_of_form g (trits_of (arity g) m n)) f_is
+        ∙ ap (value_of_form (form_of k))
+        (rw (m_is, n_is, rest_now, part_is, sym count) (trits-parts ts trits))
+        ∙ form_value k is_form d ws ls ts
 
-  pub void_is :
-      (d m : ℕ) (f : Form) (x : Three) → f ≡ form_of k → m ≡ w.marks →
-      x ≡ value_of_form f (trits_of (arity f) m 0) →
-      x ≡ value_of_class d ws k ls (without_splitter ts)
-  void_is d m f x f_is m_is e =
-      e ∙ ap (λ g. value_of_form g (trits_of (arity g) m 0)) f_is
-      ∙ ap (value_of_form (form_of k))
-      (rw (m_is, marks_is, sym count) (trits-void ts trits))
-      ∙ form_value k is_form d ws ls (without_splitter ts)
+    pub void_is :
+        (d m : ℕ) (f : Form) (x : Three) → f ≡ form_of k → m ≡ w.marks →
+        x ≡ value_of_form f (trits_of (arity f) m 0) →
+        x ≡ value_of_class d ws k ls (without_splitter ts)
+    void_is d m f x f_is m_is e =
+        e ∙ ap (λ g. value_of_form g (trits_of (arity g) m 0)) f_is
+        ∙ ap (value_of_form (form_of k))
+        (rw (m_is, marks_is, sym count) (trits-void ts trits))
+        ∙ form_value k is_form d ws ls (without_splitter ts)
 
 -- a form with more places, some of which move
 module _
     (ws : List ℤ) (k : Class) (s : ℕ) (ls ts : List ℕ) (fit : fits_class ws k ls)
     (one_each : length ts ≡ length ls) (trits : AreTrits ts) (w : MarksWeight) (moved : List ℕ)
     (weight_is : opened.Many w ≡ wide_of ws k s ls (in_coarse ts)) (moved_is : moved ≡ picked ls ts)
-    where
-  of_many : k ≡ class.Form (form_of k)
-  of_many = (marks_weight ws k s ls (in_coarse ts) w weight_is).0
+  where
+    of_many : k ≡ class.Form (form_of k)
+    of_many = (marks_weight ws k s ls (in_coarse ts) w weight_is).0
 
-  large : nat_le (arity (form_of k)) 64 ≡ false
-  large = (marks_weight ws k s ls (in_coarse ts) w weight_is).2
+    large : nat_le (arity (form_of k)) 64 ≡ false
+    large = (marks_weight ws k s ls (in_coarse ts) w weight_is).2
 
-  pub number_is : w.shape ≡ s
-  number_is =
-      ap (λ (v : MarksWeight). v.shape) (marks_weight ws k s ls (in_coarse ts) w weight_is).1
+    pub number_is : w.shape ≡ s
+    number_is =
+        ap (λ (v : MarksWeight). v.shape) (marks_weight ws k s ls (in_coarse ts) w weight_is).1
 
-  marks_are : w.marks ≡ in_coarse ts
-  marks_are =
-      ap (λ (v : MarksWeight). v.marks) (marks_weight ws k s ls (in_coarse ts) w weight_is).1
+    marks_are : w.marks ≡ in_coarse ts
+    marks_are =
+        ap (λ (v : MarksWeight). v.marks) (marks_weight ws k s ls (in_coarse ts) w weight_is).1
 
-  pub marks_count : length w.marks ≡ arity (form_of k)
-  marks_count =
-      ap length marks_are ∙ length-map ts (λ t. nat_le 1 t) ∙ one_each ∙ as_many ws k of_many ls fit
+    pub marks_count : length w.marks ≡ arity (form_of k)
+    marks_count =
+        ap length marks_are ∙ length-map ts (λ t. nat_le 1 t) ∙ one_each ∙ as_many ws k of_many ls fit
 
-  pub found_is : trits_from w.marks 0 moved ≡ ts
-  found_is =
-      told (form_of k) ls ts (record { form = form_of k; marks = w.marks }) moved
-      (form_fits ws k of_many ls fit) one_each trits (ap (toward_of_form (form_of k)) marks_are)
-      moved_is
+    pub found_is : trits_from w.marks 0 moved ≡ ts
+    found_is =
+        told (form_of k) ls ts (record { form = form_of k; marks = w.marks }) moved
+        (form_fits ws k of_many ls fit) one_each trits (ap (toward_of_form (form_of k)) marks_are)
+        moved_is
 
-  pub many_weight :
-      (r : ℕ) (f : ℕ → Bool) (ms : List Bool) → r ≡ w.shape →
-      ms ≡ map f (trits_from w.marks 0 moved) →
-      opened.Many (record { shape = r; marks = ms }) ≡ wide_of ws k s ls (map f ts)
-  many_weight r f ms r_is ms_is =
-      rw (r_is, number_is, ms_is, found_is) (many_toward ws k of_many large s ls (map f ts))
+    pub many_weight :
+        (r : ℕ) (f : ℕ → Bool) (ms : List Bool) → r ≡ w.shape →
+        ms ≡ map f (trits_from w.marks 0 moved) →
+        opened.Many (record { shape = r; marks = ms }) ≡ wide_of ws k s ls (map f ts)
+    many_weight r f ms r_is ms_is =
+        rw (r_is, number_is, ms_is, found_is) (many_toward ws k of_many large s ls (map f ts))
 
-  pub many_value :
-      (d : ℕ) (f : Form) (x : Three) (g : List ℕ → List ℕ) → f ≡ form_of k →
-      x ≡ value_of_form f (g (trits_from w.marks 0 moved)) → x ≡ value_of_class d ws k ls (g ts)
-  many_value d f x g f_is e =
-      e ∙ ap (λ h. value_of_form h (g (trits_from w.marks 0 moved))) f_is
-      ∙ ap (λ us. value_of_form (form_of k) (g us)) found_is
-      ∙ form_value k of_many d ws ls (g ts)
+    pub many_value :
+        (d : ℕ) (f : Form) (x : Three) (g : List ℕ → List ℕ) → f ≡ form_of k →
+        x ≡ value_of_form f (g (trits_from w.marks 0 moved)) → x ≡ value_of_class d ws k ls (g ts)
+    many_value d f x g f_is e =
+        e ∙ ap (λ h. value_of_form h (g (trits_from w.marks 0 moved))) f_is
+        ∙ ap (λ us. value_of_form (form_of k) (g us)) found_is
+        ∙ form_value k of_many d ws ls (g ts)

@@ -19,7 +19,7 @@ opened-sums :
     (narrow scaled : Bool) (o i : ℤ) →
     opened_of (cond narrow
     (cond scaled (weight.Scaled (record { outside = o; inside = i }))
-        (weight.Plain (record { outside = o; inside = i })))
+    (weight.Plain (record { outside = o; inside = i })))
     (weight.Wide (record { scaled = scaled; outside = o; inside = i })))
     ≡ opened.Sums (record { scaled = scaled; outside = o; inside = i })
 opened-sums true true o i = refl

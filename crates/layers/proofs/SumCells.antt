@@ -68,74 +68,75 @@ module _
     (ws : List ℤ) (k : Class) (s : ℕ) (ls ts : List ℕ) (fit : fits_class ws k ls)
     (trits : AreTrits ts) (w : SumsWeight) (moved : List ℕ)
     (weight_is : opened.Sums w ≡ wide_of ws k s ls (in_coarse ts)) (moved_is : moved ≡ picked ls ts)
-    where
-  abbrev xs : List ℤ
-  xs = weights_at ws ls
+  where
+    abbrev xs : List ℤ
+    xs = weights_at ws ls
 
-  abbrev gone : List ℤ
-  gone = weights_at ws moved
+    abbrev gone : List ℤ
+    gone = weights_at ws moved
 
-  is_sums : k ≡ class.Sums w.scaled
-  is_sums = (sums_weight ws k s ls (in_coarse ts) w weight_is).0
+    is_sums : k ≡ class.Sums w.scaled
+    is_sums = (sums_weight ws k s ls (in_coarse ts) w weight_is).0
 
-  as_group : group_of w ≡ toward_of_group (pos 0) add xs (in_coarse ts)
-  as_group = (sums_weight ws k s ls (in_coarse ts) w weight_is).1
+    as_group : group_of w ≡ toward_of_group (pos 0) add xs (in_coarse ts)
+    as_group = (sums_weight ws k s ls (in_coarse ts) w weight_is).1
 
-  few : size_of same xs ≤ 2 ^ 106
-  few = sums_fit ws k w.scaled is_sums ls fit
+    few : size_of same xs ≤ 2 ^ 106
+    few = sums_fit ws k w.scaled is_sums ls fit
 
-  gone_is : gone ≡ picked xs ts
-  gone_is = ap (weights_at ws) moved_is ∙ picked-map (weight_at ws) ls ts
+    gone_is : gone ≡ picked xs ts
+    gone_is = ap (weights_at ws) moved_is ∙ picked-map (weight_at ws) ls ts
 
-  abbrev minus : ℤ → ℤ → ℤ
-  minus a b = a -ℤ b
+    abbrev minus : ℤ → ℤ → ℤ
+    minus a b = a -ℤ b
 
-  pub small_gone : 3 * size_of (λ x. x) gone ≤ 2 ^ 126
-  small_gone =
-      groups.small_moved same (pos 0) add integers_laws minus integers_undo xs ts trits few
-      (group_of w) gone as_group gone_is
+    pub small_gone : 3 * size_of (λ x. x) gone ≤ 2 ^ 126
+    small_gone =
+        groups.small_moved same (pos 0) add integers_laws minus integers_undo xs ts trits few
+        (group_of w) gone as_group gone_is
 
-  pub small_inside : unsigned_abs w.inside ≤ 2 ^ 106
-  small_inside =
-      groups.small_inside same (pos 0) add integers_laws minus integers_undo xs ts trits few
-      (group_of w) gone as_group gone_is
+    pub small_inside : unsigned_abs w.inside ≤ 2 ^ 106
+    small_inside =
+        groups.small_inside same (pos 0) add integers_laws minus integers_undo xs ts trits few
+        (group_of w) gone as_group gone_is
 
-  pub small_outside : unsigned_abs w.outside ≤ 2 ^ 106
-  small_outside =
-      groups.small_outside same (pos 0) add integers_laws minus integers_undo xs ts trits few
-      (group_of w) gone as_group gone_is
+    pub small_outside : unsigned_abs w.outside ≤ 2 ^ 106
+    small_outside =
+        groups.small_outside same (pos 0) add integers_laws minus integers_undo xs ts trits few
+        (group_of w) gone as_group gone_is
 
-  pub small_part : unsigned_abs (total (pos 0) add gone) ≤ 2 ^ 106
-  small_part =
-      groups.small_part same (pos 0) add integers_laws minus integers_undo xs ts trits few
-      (group_of w) gone as_group gone_is
+    pub small_part : unsigned_abs (total (pos 0) add gone) ≤ 2 ^ 106
+    small_part =
+        groups.small_part same (pos 0) add integers_laws minus integers_undo xs ts trits few
+        (group_of w) gone as_group gone_is
 
-  pub small_rest : unsigned_abs (w.inside -ℤ total (pos 0) add gone) ≤ 2 ^ 106
-  small_rest =
-      groups.small_rest same (pos 0) add integers_laws minus integers_undo xs ts trits few
-      (group_of w) gone as_group gone_is
+    pub small_rest : unsigned_abs (w.inside -ℤ total (pos 0) add gone) ≤ 2 ^ 106
+    small_rest =
+        groups.small_rest same (pos 0) add integers_laws minus integers_undo xs ts trits few
+        (group_of w) gone as_group gone_is
 
-  pub sums_updated :
-      (d n : ℕ) → n ≡ over d w.scaled → (part rest other others : ℤ) →
-      part ≡ total (pos 0) add gone → rest ≡ w.inside -ℤ part → other ≡ add w.outside part →
-      others ≡ add w.outside rest →
-      (three void : Three) → three ≡ value_of_sums same (pos 0) add n w.outside rest part →
-      void ≡ value_of_sums same (pos 0) add n w.outside w.inside (pos 0) →
-      (opened.Sums (record { scaled = w.scaled; outside = other; inside = rest })
-      ≡ wide_of ws k s ls (in_rest ts))
-      × (opened.Sums (record { scaled = w.scaled; outside = others; inside = part })
-      ≡ wide_of ws k s ls (in_splitter ts))
-      × (three ≡ value_of_class d ws k ls ts)
-      × (void ≡ value_of_class d ws k ls (without_splitter ts))
-  sums_updated d n n_is part rest other others part_e rest_e other_e others_e three void three_e void_e =
-      let u = groups.updated same (pos 0) add integers_laws minus integers_undo xs ts trits few
-          (group_of w) gone as_group gone_is part rest other others part_e rest_e other_e others_e
-          n (pos 0) refl three void three_e void_e (record { node = 0 }) in
-      (ap (λ v. opened.Sums (sums_of w.scaled v)) u.rest_is
-      ∙ sums_toward ws k w.scaled is_sums s ls (in_rest ts),
-      ap (λ v. opened.Sums (sums_of w.scaled v)) u.part_is
-      ∙ sums_toward ws k w.scaled is_sums s ls (in_splitter ts),
-      u.three_is ∙ ap (λ m. value_of_group same (pos 0) add m xs ts) n_is
-      ∙ sums_value k w.scaled is_sums d ws ls ts,
-      u.void_is ∙ ap (λ m. value_of_group same (pos 0) add m xs (without_splitter ts)) n_is
-      ∙ sums_value k w.scaled is_sums d ws ls (without_splitter ts))
+    pub sums_updated :
+        (d n : ℕ) → n ≡ over d w.scaled → (part rest other others : ℤ) →
+        part ≡ total (pos 0) add gone → rest ≡ w.inside -ℤ part → other ≡ add w.outside part →
+        others ≡ add w.outside rest →
+        (three void : Three) → three ≡ value_of_sums same (pos 0) add n w.outside rest part →
+        void ≡ value_of_sums same (pos 0) add n w.outside w.inside (pos 0) →
+        (opened.Sums (record { scaled = w.scaled; outside = other; inside = rest })
+        ≡ wide_of ws k s ls (in_rest ts))
+        × (opened.Sums (record { scaled = w.scaled; outside = others; inside = part })
+        ≡ wide_of ws k s ls (in_splitter ts))
+        × (three ≡ value_of_class d ws k ls ts)
+        × (void ≡ value_of_class d ws k ls (without_splitter ts))
+    sums_updated d n n_is part rest other others part_e rest_e other_e others_e three void three_e void_e =
+        let u = groups.updated same (pos 0) add integers_laws minus integers_undo xs ts trits few
+        (group_of w) gone as_group gone_is part rest other others part_e rest_e other_e others_e
+        n (pos 0) refl three void three_e void_e (record { node = 0 }) in (
+          ap (λ v. opened.Sums (sums_of w.scaled v)) u.rest_is
+              ∙ sums_toward ws k w.scaled is_sums s ls (in_rest ts),
+          ap (λ v. opened.Sums (sums_of w.scaled v)) u.part_is
+              ∙ sums_toward ws k w.scaled is_sums s ls (in_splitter ts),
+          u.three_is ∙ ap (λ m. value_of_group same (pos 0) add m xs ts) n_is
+              ∙ sums_value k w.scaled is_sums d ws ls ts,
+          u.void_is ∙ ap (λ m. value_of_group same (pos 0) add m xs (without_splitter ts)) n_is
+              ∙ sums_value k w.scaled is_sums d ws ls (without_splitter ts),
+        )

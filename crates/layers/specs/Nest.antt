@@ -62,44 +62,44 @@ abbrev pub any_node : AnyShape → ℕ
 any_node =
     node_of_side (λ (s : SetShape). s.node)
     (node_of_side (λ (s : GroupShape). s.node)
-        (node_of_side (λ (s : GroupShape). s.node)
-            (node_of_side (λ (s : GroupShape). s.node)
-                (node_of_side (λ (s : DistShape). s.node) (λ (s : PolyShape). s.node)))))
+    (node_of_side (λ (s : GroupShape). s.node)
+    (node_of_side (λ (s : GroupShape). s.node)
+    (node_of_side (λ (s : DistShape). s.node) (λ (s : PolyShape). s.node)))))
 
 -- two shapes stand on one side
 abbrev pub any_kin : AnyShape → AnyShape → Type 0
 any_kin =
     kin_of_sides (λ _ _. Unit {0})
     (kin_of_sides (λ _ _. Unit {0})
-        (kin_of_sides (λ _ _. Unit {0})
-            (kin_of_sides (λ _ _. Unit {0})
-                (kin_of_sides (λ _ _. Unit {0}) (λ _ _. Unit {0})))))
+    (kin_of_sides (λ _ _. Unit {0})
+    (kin_of_sides (λ _ _. Unit {0})
+    (kin_of_sides (λ _ _. Unit {0}) (λ _ _. Unit {0})))))
 
 -- the labels suit the shape
 abbrev pub any_fits : AnyShape → List AnyLabel → Type 0
 any_fits =
     fits_on_side (λ _ _. Unit {0})
     (fits_on_side (λ _ ls. few_weights (λ x. x) ls)
-        (fits_on_side (λ _ ls. few_weights (λ x. x) ls)
-            (fits_on_side (λ _ ls. few_weights (λ x. x) ls)
-                (fits_on_side (λ _ ls. few_weights_of_dist ls)
-                    (λ s ls. fits_form s.form ls)))))
+    (fits_on_side (λ _ ls. few_weights (λ x. x) ls)
+    (fits_on_side (λ _ ls. few_weights (λ x. x) ls)
+    (fits_on_side (λ _ ls. few_weights_of_dist ls)
+    (λ s ls. fits_form s.form ls)))))
 
 -- the value of a structure, with a trit for each edge, in a coalgebra with the denominator d
 abbrev pub any_value : ℕ → AnyShape → List AnyLabel → List ℕ → Three
 any_value d =
     value_of_side (λ _ _ trits. value_of_set trits)
     (value_of_side (λ _ ls trits. value_of_group (λ x. x) (pos 0) add 1 ls trits)
-        (value_of_side (λ _ ls trits. value_of_group (λ x. x) (pos 0) add 1 ls trits)
-            (value_of_side (λ _ ls trits. value_of_group (λ x. x) (pos 0) add d ls trits)
-                (value_of_side (λ _ ls trits. value_of_dist d ls trits)
-                    (λ s _ trits. value_of_form s.form trits)))))
+    (value_of_side (λ _ ls trits. value_of_group (λ x. x) (pos 0) add 1 ls trits)
+    (value_of_side (λ _ ls trits. value_of_group (λ x. x) (pos 0) add d ls trits)
+    (value_of_side (λ _ ls trits. value_of_dist d ls trits)
+    (λ s _ trits. value_of_form s.form trits)))))
 
 -- two structures are equal when each target is replaced by its class
 abbrev pub any_agree : Classed AnyShape AnyLabel → Classed AnyShape AnyLabel → Type 0
 any_agree =
     agree_of_sides agree_of_sets
     (agree_of_sides (agree_of_groups (pos 0) add)
-        (agree_of_sides (agree_of_groups (pos 0) add)
-            (agree_of_sides (agree_of_groups (pos 0) add)
-                (agree_of_sides agree_of_dists agree_of_forms))))
+    (agree_of_sides (agree_of_groups (pos 0) add)
+    (agree_of_sides (agree_of_groups (pos 0) add)
+    (agree_of_sides agree_of_dists agree_of_forms))))

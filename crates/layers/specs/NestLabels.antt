@@ -142,20 +142,28 @@ module _ {X : Type 0} (f : X → ℤ) (xs : List X) where
   -- the labels suit a shape on their side if they do without sides
   module _ (P : List ℤ → Type 0) (fit : P (map f xs)) where
     pub bag_fit : AllRight bags × (AllLeft (rights bags) × P (lefts (rights bags)))
-    bag_fit =
-        (all_right _ at2 xs,
-          (subst AllLeft (sym bags1) (all_left _ f xs),
-            subst P (sym bag_labels) fit))
+    bag_fit = (
+      all_right _ at2 xs,
+      (
+        subst AllLeft (sym bags1) (all_left _ f xs),
+        subst P (sym bag_labels) fit,
+      ),
+    )
 
     pub whole_fit :
         AllRight wholes
         × (AllRight (rights wholes)
         × (AllLeft (rights (rights wholes)) × P (lefts (rights (rights wholes)))))
-    whole_fit =
-        (all_right _ whole2 xs,
-          (subst AllRight (sym wholes1) (all_right _ at3 xs),
-            (subst AllLeft (sym wholes2) (all_left _ f xs),
-              subst P (sym whole_labels) fit)))
+    whole_fit = (
+      all_right _ whole2 xs,
+      (
+        subst AllRight (sym wholes1) (all_right _ at3 xs),
+        (
+          subst AllLeft (sym wholes2) (all_left _ f xs),
+          subst P (sym whole_labels) fit,
+        ),
+      ),
+    )
 
     pub scaled_fit :
         AllRight scaleds
@@ -163,12 +171,19 @@ module _ {X : Type 0} (f : X → ℤ) (xs : List X) where
         × (AllRight (rights (rights scaleds))
         × (AllLeft (rights (rights (rights scaleds)))
         × P (lefts (rights (rights (rights scaleds)))))))
-    scaled_fit =
-        (all_right _ scaled2 xs,
-          (subst AllRight (sym scaleds1) (all_right _ scaled3 xs),
-            (subst AllRight (sym scaleds2) (all_right _ at4 xs),
-              (subst AllLeft (sym scaleds3) (all_left _ f xs),
-                subst P (sym scaled_labels) fit))))
+    scaled_fit = (
+      all_right _ scaled2 xs,
+      (
+        subst AllRight (sym scaleds1) (all_right _ scaled3 xs),
+        (
+          subst AllRight (sym scaleds2) (all_right _ at4 xs),
+          (
+            subst AllLeft (sym scaleds3) (all_left _ f xs),
+            subst P (sym scaled_labels) fit,
+          ),
+        ),
+      ),
+    )
 
     pub dist_fit :
         AllRight dists
@@ -177,13 +192,22 @@ module _ {X : Type 0} (f : X → ℤ) (xs : List X) where
         × (AllRight (rights (rights (rights dists)))
         × (AllLeft (rights (rights (rights (rights dists))))
         × P (lefts (rights (rights (rights (rights dists)))))))))
-    dist_fit =
-        (all_right _ dist2 xs,
-          (subst AllRight (sym dists1) (all_right _ dist3 xs),
-            (subst AllRight (sym dists2) (all_right _ dist4 xs),
-              (subst AllRight (sym dists3) (all_right _ at5 xs),
-                (subst AllLeft (sym dists4) (all_left _ f xs),
-                  subst P (sym dist_labels) fit)))))
+    dist_fit = (
+      all_right _ dist2 xs,
+      (
+        subst AllRight (sym dists1) (all_right _ dist3 xs),
+        (
+          subst AllRight (sym dists2) (all_right _ dist4 xs),
+          (
+            subst AllRight (sym dists3) (all_right _ at5 xs),
+            (
+              subst AllLeft (sym dists4) (all_left _ f xs),
+              subst P (sym dist_labels) fit,
+            ),
+          ),
+        ),
+      ),
+    )
 
 -- the labels of a polynomial structure
 module _ (k n : ℕ) (same : k ≡ n) where
@@ -224,10 +248,19 @@ module _ (k n : ℕ) (same : k ≡ n) where
       × (AllRight (rights (rights (rights (place_labels k))))
       × (AllRight (rights (rights (rights (rights (place_labels k)))))
       × (rights (rights (rights (rights (rights (place_labels k))))) ≡ numbers_from 0 n)))))
-  places_fit =
-      (all_right _ place2 all,
-        (subst AllRight (sym places1) (all_right _ place3 all),
-          (subst AllRight (sym places2) (all_right _ place4 all),
-            (subst AllRight (sym places3) (all_right _ place5 all),
-              (subst AllRight (sym places4) (all_right _ (λ i. i) all),
-                places5 ∙ ap (numbers_from 0) same)))))
+  places_fit = (
+    all_right _ place2 all,
+    (
+      subst AllRight (sym places1) (all_right _ place3 all),
+      (
+        subst AllRight (sym places2) (all_right _ place4 all),
+        (
+          subst AllRight (sym places3) (all_right _ place5 all),
+          (
+            subst AllRight (sym places4) (all_right _ (λ i. i) all),
+            places5 ∙ ap (numbers_from 0) same,
+          ),
+        ),
+      ),
+    ),
+  )

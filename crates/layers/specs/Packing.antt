@@ -31,7 +31,7 @@ abbrev pub pack_sums : Bool → ℤ → ℤ → LayerWeight
 pack_sums scaled o i =
     cond (is_narrow o && is_narrow i)
     (cond scaled (weight.Scaled (record { outside = o; inside = i }))
-        (weight.Plain (record { outside = o; inside = i })))
+    (weight.Plain (record { outside = o; inside = i })))
     (weight.Wide (record { scaled = scaled; outside = o; inside = i }))
 
 -- the weight in few bytes

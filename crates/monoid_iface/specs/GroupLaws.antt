@@ -114,15 +114,15 @@ module _
       let told = value_tells xs ys (map (three_way old new) cs) (map (three_way old new) ds) values in
       elim (eqb_tells k new) [
         | inl is_new ↦
-          subst (λ n. sum_at (λ c. c == n) xs cs ≡ sum_at (λ c. c == n) ys ds) (sym is_new.1)
-          (sym (at_two old new xs cs) ∙ told.1 ∙ at_two old new ys ds)
+            subst (λ n. sum_at (λ c. c == n) xs cs ≡ sum_at (λ c. c == n) ys ds) (sym is_new.1)
+            (sym (at_two old new xs cs) ∙ told.1 ∙ at_two old new ys ds)
         | inr not_new ↦ elim (eqb_tells k old) [
           | inl is_old ↦
-            subst (λ n. sum_at (λ c. c == n) xs cs ≡ sum_at (λ c. c == n) ys ds) (sym is_old.1)
-            (sym (at_one old new apart xs cs) ∙ told.0 ∙ at_one old new apart ys ds)
+              subst (λ n. sum_at (λ c. c == n) xs cs ≡ sum_at (λ c. c == n) ys ds) (sym is_old.1)
+              (sym (at_one old new apart xs cs) ∙ told.0 ∙ at_one old new apart ys ds)
           | inr not_old ↦
-            sym (at_other old new k not_old.1 not_new.1 xs cs) ∙ same k
-            ∙ at_other old new k not_old.1 not_new.1 ys ds
+              sym (at_other old new k not_old.1 not_new.1 xs cs) ∙ same k
+              ∙ at_other old new k not_old.1 not_new.1 ys ds
         ]
       ]
 

@@ -65,11 +65,7 @@ pub fn moved_marks(
 }
 
 /// The trits that marks and ascending moved places make: 2 at a moved place, else 1 where marked.
-fn place_trits(
-    alloc: Global,
-    marks: &[bool],
-    moved: &[u32],
-) -> Result<Vec<u8>, AllocError>
+fn place_trits(alloc: Global, marks: &[bool], moved: &[u32]) -> Result<Vec<u8>, AllocError>
     ensures { IfOk result (λ v. v.items ≡ trits_from marks.now 0 moved.now) }
 {
     let mut trits = Vec::with_capacity(alloc, marks.len())?;

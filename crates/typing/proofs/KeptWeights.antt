@@ -53,7 +53,7 @@ module _ {A B C D E : Type 0} (R : A → B → C → D → E → Type 0)
     (f : Node → List A → A) (g : Node → List B → B) (h : Node → List C → C)
     (i : Node → List D → D) (j : Node → List E → E) (at_other : R a b c d e)
     (keeps : (m : Node) (xs : List A) (ys : List B) (zs : List C) (ws : List D) (vs : List E)
-        → Zip5 R xs ys zs ws vs → R (f m xs) (g m ys) (h m zs) (i m ws) (j m vs))
+    → Zip5 R xs ys zs ws vs → R (f m xs) (g m ys) (h m zs) (i m ws) (j m vs))
     (t : Nodes) where
   abbrev IsKept : ℕ → ℕ → Type 0
   IsKept n p =
@@ -139,9 +139,11 @@ module _ (n : ℕ) where
       by (Value-F.Inj k v) h = (refl, none)
       by (Value-F.Weights es) h =
           let p = and_parts (list_all (λ (e : Bool × ℤ). e.0) (tested es))
-              (nat_le (sum_by (λ (e : Bool × ℤ). unsigned_abs e.1) (tested es)) n) h in
-          (sym (list_all-map (λ (e : Bool × ℤ). e.0) (λ (e : Value × ℤ). (is_within n e.0, e.1)) es)
-              ∙ p.0, sym (ap (λ k. nat_le k n) (tested_sum es)) ∙ p.1)
+          (nat_le (sum_by (λ (e : Bool × ℤ). unsigned_abs e.1) (tested es)) n) h in (
+            sym (list_all-map (λ (e : Bool × ℤ). e.0) (λ (e : Value × ℤ). (is_within n e.0, e.1)) es)
+                ∙ p.0,
+            sym (ap (λ k. nat_le k n) (tested_sum es)) ∙ p.1,
+          )
 
   at_level : (v : Value) (x : Value-F Value) → out-Value v ≡ x → layer_within x ≡ true
       → is_within n v ≡ true
@@ -165,10 +167,10 @@ module _ (n : ℕ) where
       → is_within n v ≡ true
   within_entries v es o h k =
       at_level v (Value-F.Weights es) o
-          (and_from (list_all (λ (e : Bool × ℤ). e.0) (tested es))
-          (nat_le (sum_by (λ (e : Bool × ℤ). unsigned_abs e.1) (tested es)) n)
+      (and_from (list_all (λ (e : Bool × ℤ). e.0) (tested es))
+      (nat_le (sum_by (λ (e : Bool × ℤ). unsigned_abs e.1) (tested es)) n)
       (list_all-map (λ (e : Bool × ℤ). e.0) (λ (e : Value × ℤ). (is_within n e.0, e.1)) es ∙ h)
-          (ap (λ k. nat_le k n) (tested_sum es) ∙ k))
+      (ap (λ k. nat_le k n) (tested_sum es) ∙ k))
 
 lt_is : (r : Ordering) → is_lt r ≡ true → r ≡ Less
 lt_is Less h = refl
@@ -187,8 +189,8 @@ module _ (x : Check) (f : Form) (e : Test) (c : IsCanonical x f e) where
       let p = and_parts (is_lt (f.compare u v)) (ascends f.compare (v ∷ vs)) h in
       and_from (is_lt (f.compare u v)) (list_all (λ w. is_lt (f.compare u w)) vs) p.0
       (all_where (λ w. is_lt (f.compare v w)) (λ w. is_lt (f.compare u w)) vs (below_all v vs p.1)
-          (λ w k. ap is_lt (c.ordered.total.trans u v w (lt_is (f.compare u v) p.0)
-          (lt_is (f.compare v w) k))))
+      (λ w k. ap is_lt (c.ordered.total.trans u v w (lt_is (f.compare u v) p.0)
+      (lt_is (f.compare v w) k))))
 
   rest_ascends : (u : Value) (us : List Value) → ascends f.compare (u ∷ us) ≡ true
       → ascends f.compare us ≡ true
@@ -219,7 +221,7 @@ module _ (x : Check) (f : Form) (e : Test) (c : IsCanonical x f e) where
       let p = and_parts (x u.0) (list_all (λ w. x w.0) us) hx in
       let q = and_parts (f.is_normal u.0) (list_all f.is_normal (firsts us)) hn in
       let r = and_parts (is_lt (f.compare a u.0))
-          (list_all (λ w. is_lt (f.compare a w)) (firsts us)) h in
+      (list_all (λ w. is_lt (f.compare a w)) (firsts us)) h in
       (λ i. not_above a u.0 g (p.0, q.0) r.0 i || none_equal a us g p.1 q.1 r.1 i)
 
   apart : (us : List (Value × ℤ)) → list_all (λ w. x w.0) us ≡ true
@@ -228,9 +230,10 @@ module _ (x : Check) (f : Form) (e : Test) (c : IsCanonical x f e) where
   apart [] hx hn h = tt
   apart (u ∷ us) hx hn h =
       let p = and_parts (x u.0) (list_all (λ w. x w.0) us) hx in
-      let q = and_parts (f.is_normal u.0) (list_all f.is_normal (firsts us)) hn in
-      (none_equal u.0 us (p.0, q.0) p.1 q.1 (below_all u.0 (firsts us) h),
-          apart us p.1 q.1 (rest_ascends u.0 (firsts us) h))
+      let q = and_parts (f.is_normal u.0) (list_all f.is_normal (firsts us)) hn in (
+        none_equal u.0 us (p.0, q.0) p.1 q.1 (below_all u.0 (firsts us) h),
+        apart us p.1 q.1 (rest_ascends u.0 (firsts us) h),
+      )
 
 -- entries with their states replaced
 abbrev onto : List ℕ → List (Value × ℤ) → List (Value × ℤ)
@@ -290,10 +293,10 @@ module _ (d n : ℕ) (b : List ℕ) where
       by :
           (o : Bool)
           → Keeps (check_at xs (k - 1)) (form_at fs (k - 1)) (test_at es (k - 1))
-            (check_at gs (k - 1)) (check_at hs (k - 1))
+          (check_at gs (k - 1)) (check_at hs (k - 1))
           → Keeps (if o then x else check_at xs (k - 1)) (if o then f else form_at fs (k - 1))
-            (if o then e else test_at es (k - 1)) (if o then g else check_at gs (k - 1))
-            (if o then h else check_at hs (k - 1))
+          (if o then e else test_at es (k - 1)) (if o then g else check_at gs (k - 1))
+          (if o then h else check_at hs (k - 1))
       by true later = z.0
       by false later = later
 
@@ -333,8 +336,8 @@ module _ (d n : ℕ) (b : List ℕ) where
     found r (v ∷ vs) h hg =
         let t = and_parts (g v) (list_all g vs) hg in
         ⊎_elim (λ here. (v, c.is.symm r (relabelled b v) ∙ here, t.0))
-            (λ later. found r vs later t.1)
-            (or_cases (e (relabelled b v) r) (has e (map (relabelled b) vs) r) h)
+        (λ later. found r vs later t.1)
+        (or_cases (e (relabelled b v) r) (has e (map (relabelled b) vs) r) h)
 
     set_kept : (rs vs : List Value) → list_all x rs ≡ true → list_all f.is_normal rs ≡ true
         → list_all (has e (map (relabelled b) vs)) rs ≡ true → list_all g vs ≡ true
@@ -344,7 +347,7 @@ module _ (d n : ℕ) (b : List ℕ) where
         let p = and_parts (x r) (list_all x rs) hx in
         let q = and_parts (f.is_normal r) (list_all f.is_normal rs) hn in
         let s = and_parts (has e (map (relabelled b) vs) r)
-            (list_all (has e (map (relabelled b) vs)) rs) h in
+        (list_all (has e (map (relabelled b) vs)) rs) h in
         let (v, same, holds) = found r vs s.0 hg in
         and_from (o r) (list_all o rs) (k r v p.0 q.0 same holds) (set_kept rs vs p.1 q.1 s.1 hg)
 
@@ -355,8 +358,8 @@ module _ (d n : ℕ) (b : List ℕ) where
     moved_has a (v ∷ vs) h hg =
         let t = and_parts (g v.0) (list_all (λ w. g w.0) vs) hg in
         ⊎_elim (λ here. (v.0, c.is.symm a (relabelled b v.0) ∙ here, t.0))
-            (λ later. moved_has a vs later t.1)
-            (or_cases (e (relabelled b v.0) a) (list_any (λ w. e w.0 a) (onto b vs)) h)
+        (λ later. moved_has a vs later t.1)
+        (or_cases (e (relabelled b v.0) a) (list_any (λ w. e w.0 a) (onto b vs)) h)
 
     -- an entry that has a weight has an equal one among the others
     entry_found : (a : Value × ℤ) (vs : List (Value × ℤ)) → weight_of e (onto b vs) a.0 ≡ a.1
@@ -379,10 +382,10 @@ module _ (d n : ℕ) (b : List ℕ) where
         let p = and_parts (x r.0) (list_all (λ w. x w.0) rs) hx in
         let q = and_parts (f.is_normal r.0) (list_all f.is_normal (map (λ w. w.0) rs)) hn in
         let z = and_parts (not (int_eq r.1 (pos 0)))
-            (list_all (λ w. not (int_eq w.1 (pos 0))) rs) hz in
+        (list_all (λ w. not (int_eq w.1 (pos 0))) rs) hz in
         let (v, same, holds) = entry_found r vs h.0 z.0 hg in
         and_from (o r.0) (list_all (λ w. o w.0) rs) (k r.0 v p.0 q.0 same holds)
-            (entries_kept rs vs p.1 q.1 z.1 h.1 hg)
+        (entries_kept rs vs p.1 q.1 z.1 h.1 hg)
 
   -- places, each by its own
   places_kept :
@@ -460,9 +463,9 @@ module _ (d n : ℕ) (b : List ℕ) where
     summed m w r v hx hn h =
         let a = weight_shape xs (out-Value r) (sym (w xs (out-Value r)) ∙ hx) in
         let p = and_parts (is_normal_list (form_at fs 0) (map (λ w. w.0) (entries r)))
-            (list_all (λ w. not (int_eq w.1 (pos 0))) (entries r)) hn in
+        (list_all (λ w. not (int_eq w.1 (pos 0))) (entries r)) hn in
         let q = and_parts (ascends (form_at fs 0).compare (map (λ w. w.0) (entries r)))
-            (list_all (form_at fs 0).is_normal (map (λ w. w.0) (entries r))) p.0 in
+        (list_all (form_at fs 0).is_normal (map (λ w. w.0) (entries r))) p.0 in
         record {
           out = a.0;
           fitting = a.1;
@@ -489,16 +492,20 @@ module _ (d n : ℕ) (b : List ℕ) where
       positive_kept : are_from_zero (entries v) ≡ true → are_positive (entries r) ≡ true
       positive_kept h =
           own_positive (test_at es 0) one.canonical.is (onto b (entries v)) (entries r)
-              (list_all-map (λ (w : Value × ℤ). not (int_lt w.1 (pos 0)))
-              (λ (w : Value × ℤ). (relabelled b w.0, w.1)) (entries v) ∙ h) owned s.nonzero
+          (list_all-map (λ (w : Value × ℤ). not (int_lt w.1 (pos 0)))
+          (λ (w : Value × ℤ). (relabelled b w.0, w.1)) (entries v) ∙ h) owned s.nonzero
 
       size_kept : nat_le (absolute_sum (entries v)) n ≡ true
           → nat_le (absolute_sum (entries r)) n ≡ true
       size_kept h =
           le-leb (absolute_sum (entries r)) n
-              (omega (arith, leb-true (absolute_sum (entries v)) n h, onto_size b (entries v),
-              absolute_least (test_at es 0) one.canonical.is (entries r)
-              (onto b (entries v)) s.apart s.same))
+          (omega (
+            arith,
+            leb-true (absolute_sum (entries v)) n h,
+            onto_size b (entries v),
+            absolute_least (test_at es 0) one.canonical.is (entries r)
+                (onto b (entries v)) s.apart s.same,
+          ))
 
       joint_kept : joint_weight Distribution (entries r) ≡ joint_weight Distribution (entries v)
       joint_kept = joint_same (test_at es 0) one.canonical.is (entries r)
@@ -508,7 +515,7 @@ module _ (d n : ℕ) (b : List ℕ) where
       bound_kept h =
           let w = entries_within n v h in
           within_entries n r (entries r) s.out
-              (each_kept (is_within n) (is_within n) one.bounds w.0) (size_kept w.1)
+          (each_kept (is_within n) (is_within n) one.bounds w.0) (size_kept w.1)
 
     abbrev Step : Node → Check → Check → Type 0
     Step m = Carries (fits_step m xs) (form_step m fs) (eq_step m es)
@@ -516,14 +523,14 @@ module _ (d n : ℕ) (b : List ℕ) where
     -- a part of a sum
     sum_parts : (r v : Value) → fits_step Sum xs r ≡ true → eq_step Sum es r (relabelled b v) ≡ true
         → (index r ≡ index v) × (check_at xs (index r) (inner r) ≡ true)
-            × (test_at es (index r) (inner r) (relabelled b (inner v)) ≡ true)
-            × (out-Value r ≡ Value-F.Inj (index r) (inner r))
+        × (test_at es (index r) (inner r) (relabelled b (inner v)) ≡ true)
+        × (out-Value r ≡ Value-F.Inj (index r) (inner r))
     sum_parts r v hx h =
         let a = sum_shape xs r (out-Value r) hx in
         let k = sym (λ i. (index r == index_map b v i) && test_at es (index r) (inner r)
-            (inner_map b v i)) ∙ h in
+        (inner_map b v i)) ∙ h in
         let p = and_parts (index r == index v)
-            (test_at es (index r) (inner r) (relabelled b (inner v))) k in
+        (test_at es (index r) (inner r) (relabelled b (inner v))) k in
         (eqb-true (index r) (index v) p.0, a.1, p.1, a.0)
 
     weights_kept : (m : Node) → Step m (sums_step are_from_zero d m gs) (weights_step d m hs)
@@ -532,47 +539,47 @@ module _ (d n : ℕ) (b : List ℕ) where
     weights_kept Naturals r v hx hn h hg = refl
     weights_kept Product r v hx hn h hg =
         places_kept xs fs es gs hs z (parts r) (parts v) (product_shape xs (out-Value r) hx).1 hn
-            (sym (ap (each_place es (parts r)) (parts_map b v)) ∙ h) hg
+        (sym (ap (each_place es (parts r)) (parts_map b v)) ∙ h) hg
     weights_kept Sum r v hx hn h hg =
         let (same, fit, eq, out) = sum_parts r v hx h in
         (at_keeps xs fs es gs hs (index r) z).weights (inner r) (inner v) fit hn eq
-            (subst (λ k. check_at gs k (inner v) ≡ true) (sym same) hg)
+        (subst (λ k. check_at gs k (inner v) ≡ true) (sym same) hg)
     weights_kept (Power labels) r v hx hn h hg =
         list_kept (check_at xs 0) (form_at fs 0) (test_at es 0) one.canonical (check_at gs 0)
-            (check_at hs 0) one.weights (parts r) (parts v)
-            (power_shape labels xs (out-Value r) hx).1 hn
-            (sym (ap (pointwise (test_at es 0) (parts r)) (parts_map b v)) ∙ h) hg
+        (check_at hs 0) one.weights (parts r) (parts v)
+        (power_shape labels xs (out-Value r) hx).1 hn
+        (sym (ap (pointwise (test_at es 0) (parts r)) (parts_map b v)) ∙ h) hg
     weights_kept Powerset r v hx hn h hg =
         set_kept (check_at xs 0) (form_at fs 0) (test_at es 0) one.canonical (check_at gs 0)
-            (check_at hs 0) one.weights (parts r) (parts v) (set_shape xs (out-Value r) hx).1
+        (check_at hs 0) one.weights (parts r) (parts v) (set_shape xs (out-Value r) hx).1
         (and_parts (ascends (form_at fs 0).compare (parts r))
-            (list_all (form_at fs 0).is_normal (parts r)) hn).1
+        (list_all (form_at fs 0).is_normal (parts r)) hn).1
         (sym (ap (λ vs. list_all (has (test_at es 0) vs) (parts r)) (parts_map b v))
-            ∙ (and_parts (list_all (has (test_at es 0) (parts (relabelled b v))) (parts r))
-            (list_all (has (test_at es 0) (parts r)) (parts (relabelled b v))) h).0) hg
+        ∙ (and_parts (list_all (has (test_at es 0) (parts (relabelled b v))) (parts r))
+        (list_all (has (test_at es 0) (parts r)) (parts (relabelled b v))) h).0) hg
     weights_kept Bag r v hx hn h hg =
         let s = summed Bag bag_weighted r v hx hn h in
         let p = and_parts (are_from_zero (entries v))
-            (entries_hold (check_at gs 0) (entries v)) hg in
+        (entries_hold (check_at gs 0) (entries v)) hg in
         and_from (are_positive (entries r)) (entries_hold (check_at hs 0) (entries r))
         (positive_kept r v s p.0) (each_kept r v s (check_at gs 0) (check_at hs 0) one.weights p.1)
     weights_kept Distribution r v hx hn h hg =
         let s = summed Distribution distribution_weighted r v hx hn h in
         let sums : List (Value × ℤ) → Bool = λ ws. int_eq (joint_weight Distribution ws) (pos d) in
         let p = and_parts (are_from_zero (entries v) && sums (entries v))
-            (entries_hold (check_at gs 0) (entries v)) hg in
+        (entries_hold (check_at gs 0) (entries v)) hg in
         let q = and_parts (are_from_zero (entries v)) (sums (entries v)) p.0 in
         and_from (are_positive (entries r) && sums (entries r))
-            (entries_hold (check_at hs 0) (entries r))
+        (entries_hold (check_at hs 0) (entries r))
         (and_from (are_positive (entries r)) (sums (entries r)) (positive_kept r v s q.0)
-            (ap (λ k. int_eq k (pos d)) (joint_kept r v s) ∙ q.1))
+        (ap (λ k. int_eq k (pos d)) (joint_kept r v s) ∙ q.1))
         (each_kept r v s (check_at gs 0) (check_at hs 0) one.weights p.1)
     weights_kept Integers r v hx hn h hg =
         each_kept r v (summed Integers integers_weighted r v hx hn h) (check_at gs 0)
-            (check_at hs 0) one.weights hg
+        (check_at hs 0) one.weights hg
     weights_kept Rationals r v hx hn h hg =
         each_kept r v (summed Rationals rationals_weighted r v hx hn h) (check_at gs 0)
-            (check_at hs 0) one.weights hg
+        (check_at hs 0) one.weights hg
 
     -- a state and a label have no weights
     state_within : (x : Value-F Value) → fits_level State xs x ≡ true → layer_within n x ≡ true
@@ -608,29 +615,29 @@ module _ (d n : ℕ) (b : List ℕ) where
     bounds_kept Product r v hx hn h hg =
         let a = product_shape xs (out-Value r) hx in
         within_tuple n r (parts r) a.0 (places_bound xs fs es gs hs z (parts r) (parts v) a.1 hn
-            (sym (ap (each_place es (parts r)) (parts_map b v)) ∙ h) (parts_within n v hg))
+        (sym (ap (each_place es (parts r)) (parts_map b v)) ∙ h) (parts_within n v hg))
     bounds_kept Sum r v hx hn h hg =
         let (same, fit, eq, out) = sum_parts r v hx h in
         within_inner n r (index r) (inner r) out
-            ((at_keeps xs fs es gs hs (index r) z).bounds (inner r) (inner v) fit hn eq
-            (inner_within n v hg))
+        ((at_keeps xs fs es gs hs (index r) z).bounds (inner r) (inner v) fit hn eq
+        (inner_within n v hg))
     bounds_kept (Power labels) r v hx hn h hg =
         let a = power_shape labels xs (out-Value r) hx in
         within_tuple n r (parts r) a.0 (list_kept (check_at xs 0) (form_at fs 0)
-            (test_at es 0) one.canonical (is_within n) (is_within n) one.bounds (parts r)
-            (parts v) a.1 hn (sym (ap (pointwise (test_at es 0) (parts r)) (parts_map b v)) ∙ h)
-            (parts_within n v hg))
+        (test_at es 0) one.canonical (is_within n) (is_within n) one.bounds (parts r)
+        (parts v) a.1 hn (sym (ap (pointwise (test_at es 0) (parts r)) (parts_map b v)) ∙ h)
+        (parts_within n v hg))
     bounds_kept Powerset r v hx hn h hg =
         let a = set_shape xs (out-Value r) hx in
         within_set n r (parts r) a.0 (set_kept (check_at xs 0) (form_at fs 0)
-            (test_at es 0) one.canonical (is_within n) (is_within n) one.bounds (parts r)
-            (parts v) a.1
+        (test_at es 0) one.canonical (is_within n) (is_within n) one.bounds (parts r)
+        (parts v) a.1
         (and_parts (ascends (form_at fs 0).compare (parts r))
-            (list_all (form_at fs 0).is_normal (parts r)) hn).1
+        (list_all (form_at fs 0).is_normal (parts r)) hn).1
         (sym (ap (λ vs. list_all (has (test_at es 0) vs) (parts r)) (parts_map b v))
-            ∙ (and_parts (list_all (has (test_at es 0) (parts (relabelled b v))) (parts r))
-            (list_all (has (test_at es 0) (parts r)) (parts (relabelled b v))) h).0)
-            (parts_within n v hg))
+        ∙ (and_parts (list_all (has (test_at es 0) (parts (relabelled b v))) (parts r))
+        (list_all (has (test_at es 0) (parts r)) (parts (relabelled b v))) h).0)
+        (parts_within n v hg))
     bounds_kept Bag r v hx hn h hg = bound_kept r v (summed Bag bag_weighted r v hx hn h) hg
     bounds_kept Distribution r v hx hn h hg =
         bound_kept r v (summed Distribution distribution_weighted r v hx hn h) hg
@@ -643,7 +650,7 @@ module _ (d n : ℕ) (b : List ℕ) where
       (m : Node) (xs : List Check) (fs : List Form) (es : List Test) (gs hs : List Check)
       → KeepAll xs fs es gs hs
       → Keeps (fits_step m xs) (form_step m fs) (eq_step m es) (sums_step are_from_zero d m gs)
-        (weights_step d m hs)
+      (weights_step d m hs)
   step_keeps m xs fs es gs hs z = record {
     canonical = step_canonical m xs fs es (all_canonical xs fs es gs hs z);
     weights = weights_kept xs fs es gs hs z m;
@@ -653,7 +660,7 @@ module _ (d n : ℕ) (b : List ℕ) where
   node_keeps :
       (t : Nodes) (p : ℕ)
       → Keeps (fits t p) (form t p) (are_equal t p) (sums_hold are_from_zero d t p)
-        (weights_hold d t p)
+      (weights_hold d t p)
   node_keeps t p =
       fold-related5 Keeps no_check no_form no_test any_weights any_weights fits_step form_step
       eq_step (sums_step are_from_zero d) (weights_step d) (none_keeps any_weights any_weights)

@@ -74,7 +74,7 @@ module _ (n : ℕ) (f : List ℕ) (itself : (i : ℕ) → i < n → slice_index 
   kept = ind-Value IsKept (λ x y is h.
       same_value (relabelled f (roll-Value x)) (roll-Value x)
       (mapped_roll f x ∙ subst (λ (z : Value-F Value). layer_below n z ≡ true → mapped f z ≡ z) is
-          (kept_level y) (at_level n x h) ∙ sym (out-roll-Value x)))
+      (kept_level y) (at_level n x h) ∙ sym (out-roll-Value x)))
 
 -- each number of a list that counts is below its length
 pub own-below :

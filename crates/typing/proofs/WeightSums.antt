@@ -101,10 +101,10 @@ module _ (e : Test) (is : IsEquivalence e) where
   own_positive vs [] h k z = refl
   own_positive vs (u ∷ us) h k z =
       let p = and_parts (not (int_eq u.1 (pos 0)))
-          (list_all (λ w. not (int_eq w.1 (pos 0))) us) z in
+      (list_all (λ w. not (int_eq w.1 (pos 0))) us) z in
       let (n, q) = natural_sum vs u.0 h in
       and_from (int_lt (pos 0) u.1) (are_positive us) (positive_from u.1 n (sym k.0 ∙ q) p.0)
-          (own_positive vs us h k.1 p.1)
+      (own_positive vs us h k.1 p.1)
 
   -- the entries whose values are not equal to x
   abbrev without : Value → List (Value × ℤ) → List (Value × ℤ)
@@ -118,10 +118,15 @@ module _ (e : Test) (is : IsEquivalence e) where
       by : (b : Bool) → unsigned_abs (weight_of e ws x) + absolute_sum
           (without x ws) ≤ absolute_sum ws
           → unsigned_abs ((if b then w.1 else pos 0) +ℤ weight_of e ws x) + absolute_sum
-              (cond (not b) (w ∷ without x ws) (without x ws)) ≤ absolute_sum (w ∷ ws)
+          (cond (not b) (w ∷ without x ws) (without x ws)) ≤ absolute_sum (w ∷ ws)
       by true h = omega (arith, triangle w.1 (weight_of e ws x), sum_by-cons size w ws, h)
-      by false h = omega (arith, triangle (pos 0) (weight_of e ws x), sum_by-cons size w ws,
-          sum_by-cons size w (without x ws), h)
+      by false h = omega (
+        arith,
+        triangle (pos 0) (weight_of e ws x),
+        sum_by-cons size w ws,
+        sum_by-cons size w (without x ws),
+        h,
+      )
 
   -- the others keep their weights
   others : (x a : Value) (ws : List (Value × ℤ))
@@ -137,7 +142,7 @@ module _ (e : Test) (is : IsEquivalence e) where
       by : (b c : Bool) → (b ≡ true → e w.0 a ≡ c) → (c ≡ true → e w.0 a ≡ b)
           → weight_of e (without x ws) a ≡ (if c then pos 0 else weight_of e ws a)
           → weight_of e (cond (not b) (w ∷ without x ws) (without x ws)) a
-              ≡ (if c then pos 0 else (if e w.0 a then w.1 else pos 0) +ℤ weight_of e ws a)
+          ≡ (if c then pos 0 else (if e w.0 a then w.1 else pos 0) +ℤ weight_of e ws a)
       by true true g k h = h
       by true false g k h = h ∙ sym (ap (λ o. (if o then w.1 else pos 0) +ℤ weight_of e ws a)
           (g refl) ∙ omega (arith, ints))
@@ -155,7 +160,7 @@ module _ (e : Test) (is : IsEquivalence e) where
       by true q = weight_of-congr e is us a u.0 q ∙ weight_of-none e is us u.0 none
       by false q =
           let head : weight_of e (u ∷ us) a ≡ pos 0 +ℤ weight_of e us a =
-              ap (λ b. (if b then u.1 else pos 0) +ℤ weight_of e us a) (is.symm u.0 a ∙ q) in
+          ap (λ b. (if b then u.1 else pos 0) +ℤ weight_of e us a) (is.symm u.0 a ∙ q) in
           let all : weight_of e (u ∷ us) a ≡ weight_of e vs a = same a in
           omega (arith, ints, head, all)
 
@@ -165,9 +170,14 @@ module _ (e : Test) (is : IsEquivalence e) where
   absolute_least [] vs h same = omega arith
   absolute_least (u ∷ us) vs h same =
       let first : unsigned_abs u.1 ≡ unsigned_abs (weight_of e vs u.0) =
-          ap unsigned_abs (sym (own_head u us h.0) ∙ same u.0) in
-      omega (arith, sum_by-cons size u us, split_size u.0 vs, first,
-          absolute_least us (without u.0 vs) h.1 (rest_same u us vs h.0 same))
+      ap unsigned_abs (sym (own_head u us h.0) ∙ same u.0) in
+      omega (
+        arith,
+        sum_by-cons size u us,
+        split_size u.0 vs,
+        first,
+        absolute_least us (without u.0 vs) h.1 (rest_same u us vs h.0 same),
+      )
 
   -- the sum of all weights stays
   pub joint_same : (us vs : List (Value × ℤ)) → ((a : Value) → weight_of e us a ≡ weight_of e vs a)
@@ -175,6 +185,6 @@ module _ (e : Test) (is : IsEquivalence e) where
   joint_same us vs same =
       let a : Value = value.Label 0 in
       let all : (ws : List (Value × ℤ)) → list_all (λ w. true) ws ≡ true =
-          λ ws. all_from_each (λ w. true) ws (λ w. refl) in
+      λ ws. all_from_each (λ w. true) ws (λ w. refl) in
       joint_is us a ∙ coarser_sums e no_test is no_test-equivalence (λ v. true)
-          (λ x y hx hy h. refl) us vs (all us) (all vs) same a ∙ sym (joint_is vs a)
+      (λ x y hx hy h. refl) us vs (all us) (all vs) same a ∙ sym (joint_is vs a)

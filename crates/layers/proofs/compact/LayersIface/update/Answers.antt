@@ -4,9 +4,12 @@ use Rattle.layers.proofs.compact.LayersIface.update.Goals as goal
 
 pub moved_out-requires-clause-cell : goal.moved_out-requires-clause-cell
 moved_out-requires-clause-cell g c =
-    let cell = c.requires.cell in
-    (cell.0, cell.1, cell.2,
-    rw c.in_ok-unpacked.ensures (cell_opened c.args.self.now.denominator c.args.self.now.shapes.items c.args.self.now.weights.items c.args.moved.now cell.0 cell.1 cell.2 c.args.weight.now cell.3))
+    let cell = c.requires.cell in (
+      cell.0,
+      cell.1,
+      cell.2,
+      rw c.in_ok-unpacked.ensures (cell_opened c.args.self.now.denominator c.args.self.now.shapes.items c.args.self.now.weights.items c.args.moved.now cell.0 cell.1 cell.2 c.args.weight.now cell.3),
+    )
 
 pub returns-clause-updated : goal.returns-clause-updated
 returns-clause-updated g c shape labels trits cell =

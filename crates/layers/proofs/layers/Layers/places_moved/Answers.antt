@@ -9,8 +9,8 @@ bits_at-part-requires c =
     let ws = c.args.self.now.weights.items in
     let kind = class_at c.args.self.now.shapes.items c.requires.cell.0 in
     let few =
-        few_moved ws kind c.requires.cell.0 c.requires.cell.1 c.requires.cell.2 k.fit k.one_each
-        k.are_trits c.args.places c.args.moved.now k.weight_is k.moved_is in
+    few_moved ws kind c.requires.cell.0 c.requires.cell.1 c.requires.cell.2 k.fit k.one_each
+    k.are_trits c.args.places c.args.moved.now k.weight_is k.moved_is in
     record { few = few }
 
 pub overflow_sub-rest : goal.overflow_sub-rest
@@ -23,30 +23,32 @@ overflow_sub-rest c =
     k.are_trits c.args.places c.args.moved.now k.weight_is k.moved_is)
 
 pub returns : goal.returns
-returns c = record { updated = λ shape labels trits k.
-    let shapes = c.args.self.now.shapes.items in
-    let ws = c.args.self.now.weights.items in
-    let kind = class_at shapes shape in
-    let w = c.args.places in
-    let moved = c.args.moved.now in
-    let d = c.args.self.now.denominator in
-    let form =
-        c.form-form.ensures
-        ∙ ap (λ n. form_of (class_at shapes n))
-        (shape_is ws kind shape labels trits k.fit k.one_each k.are_trits w moved k.weight_is
-        k.moved_is) in
-    record {
-      rest_is =
-          rest_is ws kind shape labels trits k.fit k.one_each k.are_trits w moved k.weight_is
-          k.moved_is _ _ refl (ap (λ n. w.marks - n) c.bits_at-part.ensures);
-      part_is =
-          part_weight ws kind shape labels trits k.fit k.one_each k.are_trits w moved k.weight_is
-          k.moved_is _ _ refl c.bits_at-part.ensures;
-      three_is =
-          three_is ws kind shape labels trits k.fit k.one_each k.are_trits w moved k.weight_is
-          k.moved_is d _ c.bits_at-part.result c.form-form.result _ form refl
-          c.bits_at-part.ensures c.in_ok-three.ensures;
-      void_is =
-          void_is ws kind shape labels trits k.fit k.one_each k.are_trits w moved k.weight_is
-          k.moved_is d _ c.form-form.result _ form refl c.in_ok-void.ensures;
-    }; }
+returns c = record {
+  updated = λ shape labels trits k.
+      let shapes = c.args.self.now.shapes.items in
+      let ws = c.args.self.now.weights.items in
+      let kind = class_at shapes shape in
+      let w = c.args.places in
+      let moved = c.args.moved.now in
+      let d = c.args.self.now.denominator in
+      let form =
+      c.form-form.ensures
+      ∙ ap (λ n. form_of (class_at shapes n))
+      (shape_is ws kind shape labels trits k.fit k.one_each k.are_trits w moved k.weight_is
+      k.moved_is) in
+      record {
+        rest_is =
+            rest_is ws kind shape labels trits k.fit k.one_each k.are_trits w moved k.weight_is
+            k.moved_is _ _ refl (ap (λ n. w.marks - n) c.bits_at-part.ensures);
+        part_is =
+            part_weight ws kind shape labels trits k.fit k.one_each k.are_trits w moved k.weight_is
+            k.moved_is _ _ refl c.bits_at-part.ensures;
+        three_is =
+            three_is ws kind shape labels trits k.fit k.one_each k.are_trits w moved k.weight_is
+            k.moved_is d _ c.bits_at-part.result c.form-form.result _ form refl
+            c.bits_at-part.ensures c.in_ok-three.ensures;
+        void_is =
+            void_is ws kind shape labels trits k.fit k.one_each k.are_trits w moved k.weight_is
+            k.moved_is d _ c.form-form.result _ form refl c.in_ok-void.ensures;
+      };
+}

@@ -11,27 +11,29 @@ overflow_sub-rest c =
     let k = c.requires.cell.3 in
     let kind = class_at c.args.self.now.shapes.items c.requires.cell.0 in
     let is =
-        set_weight c.args.self.now.weights.items kind c.requires.cell.0 c.requires.cell.1
-        (in_coarse c.requires.cell.2) c.args.set k.weight_is in
+    set_weight c.args.self.now.weights.items kind c.requires.cell.0 c.requires.cell.1
+    (in_coarse c.requires.cell.2) c.args.set k.weight_is in
     moves.fewer _ _ _ _ k.one_each k.are_trits is.1 k.moved_is
 
 pub returns : goal.returns
-returns c = record { updated = λ shape labels trits k.
-    let ws = c.args.self.now.weights.items in
-    let d = c.args.self.now.denominator in
-    let kind = class_at c.args.self.now.shapes.items shape in
-    let is = set_weight ws kind shape labels (in_coarse trits) c.args.set k.weight_is in
-    record {
-      rest_is =
-          ap opened.Set (moves.rest_is _ _ _ _ k.one_each k.are_trits is.1 k.moved_is)
-          ∙ set_toward ws kind is.0 shape labels (in_rest trits);
-      part_is =
-          ap opened.Set (moves.part_is _ _ _ _ k.one_each k.are_trits is.1 k.moved_is)
-          ∙ set_toward ws kind is.0 shape labels (in_splitter trits);
-      three_is =
-          moves.three_is _ _ _ _ k.one_each k.are_trits is.1 k.moved_is _ c.bits.ensures
-          ∙ set_value kind is.0 d ws labels trits;
-      void_is =
-          moves.void_is _ _ _ _ k.one_each k.are_trits is.1 k.moved_is _ c.bits-2.ensures
-          ∙ set_value kind is.0 d ws labels (without_splitter trits);
-    }; }
+returns c = record {
+  updated = λ shape labels trits k.
+      let ws = c.args.self.now.weights.items in
+      let d = c.args.self.now.denominator in
+      let kind = class_at c.args.self.now.shapes.items shape in
+      let is = set_weight ws kind shape labels (in_coarse trits) c.args.set k.weight_is in
+      record {
+        rest_is =
+            ap opened.Set (moves.rest_is _ _ _ _ k.one_each k.are_trits is.1 k.moved_is)
+            ∙ set_toward ws kind is.0 shape labels (in_rest trits);
+        part_is =
+            ap opened.Set (moves.part_is _ _ _ _ k.one_each k.are_trits is.1 k.moved_is)
+            ∙ set_toward ws kind is.0 shape labels (in_splitter trits);
+        three_is =
+            moves.three_is _ _ _ _ k.one_each k.are_trits is.1 k.moved_is _ c.bits.ensures
+            ∙ set_value kind is.0 d ws labels trits;
+        void_is =
+            moves.void_is _ _ _ _ k.one_each k.are_trits is.1 k.moved_is _ c.bits-2.ensures
+            ∙ set_value kind is.0 d ws labels (without_splitter trits);
+      };
+}

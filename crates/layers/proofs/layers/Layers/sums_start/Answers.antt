@@ -22,7 +22,7 @@ returns-clause-weight c =
 pub returns-clause-three : goal.returns-clause-three
 returns-clause-three c =
     let same : to_z w128 (of_z w128 c.total_at-inside.result) ≡ c.total_at-inside.result =
-        search rules in
+    search rules in
     start_value c.args.self.now.weights.items
     (class_at c.args.self.now.shapes.items c.args.shape) c.args.scaled c.requires.class
     c.args.labels.now c.args.self.now.denominator _ c.denominator_of-over.ensures.is _ _

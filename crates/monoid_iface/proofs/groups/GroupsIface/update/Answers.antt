@@ -16,47 +16,47 @@ sub-rest-requires g c =
     let k = c.requires.cell.3 in
     let group = c.args.self.now.group in
     let inside =
-        small_inside (g.G.Monoid.number group) (g.G.Monoid.zero group) (g.G.Monoid.add group)
-        (g.met.G.Monoid.laws group) (g.G.Group.sub group) (g.met.G.Group.undoes group)
-        c.requires.cell.1 c.requires.cell.2 k.are_trits k.fit c.args.weight.now c.args.moved.now
-        k.weight_is k.moved_is in
+    small_inside (g.G.Monoid.number group) (g.G.Monoid.zero group) (g.G.Monoid.add group)
+    (g.met.G.Monoid.laws group) (g.G.Group.sub group) (g.met.G.Group.undoes group)
+    c.requires.cell.1 c.requires.cell.2 k.are_trits k.fit c.args.weight.now c.args.moved.now
+    k.weight_is k.moved_is in
     let part =
-        small_part (g.G.Monoid.number group) (g.G.Monoid.zero group) (g.G.Monoid.add group)
-        (g.met.G.Monoid.laws group) (g.G.Group.sub group) (g.met.G.Group.undoes group)
-        c.requires.cell.1 c.requires.cell.2 k.are_trits k.fit c.args.weight.now c.args.moved.now
-        k.weight_is k.moved_is in
-    record { within = rw c.total_of-part.ensures.sum (omega (arith, inside, part)); }
+    small_part (g.G.Monoid.number group) (g.G.Monoid.zero group) (g.G.Monoid.add group)
+    (g.met.G.Monoid.laws group) (g.G.Group.sub group) (g.met.G.Group.undoes group)
+    c.requires.cell.1 c.requires.cell.2 k.are_trits k.fit c.args.weight.now c.args.moved.now
+    k.weight_is k.moved_is in
+    record { within = rw c.total_of-part.ensures.sum (omega (arith, inside, part)) }
 
 pub add-other-requires : goal.add-other-requires
 add-other-requires g c =
     let k = c.requires.cell.3 in
     let group = c.args.self.now.group in
     let outside =
-        small_outside (g.G.Monoid.number group) (g.G.Monoid.zero group) (g.G.Monoid.add group)
-        (g.met.G.Monoid.laws group) (g.G.Group.sub group) (g.met.G.Group.undoes group)
-        c.requires.cell.1 c.requires.cell.2 k.are_trits k.fit c.args.weight.now c.args.moved.now
-        k.weight_is k.moved_is in
+    small_outside (g.G.Monoid.number group) (g.G.Monoid.zero group) (g.G.Monoid.add group)
+    (g.met.G.Monoid.laws group) (g.G.Group.sub group) (g.met.G.Group.undoes group)
+    c.requires.cell.1 c.requires.cell.2 k.are_trits k.fit c.args.weight.now c.args.moved.now
+    k.weight_is k.moved_is in
     let part =
-        small_part (g.G.Monoid.number group) (g.G.Monoid.zero group) (g.G.Monoid.add group)
-        (g.met.G.Monoid.laws group) (g.G.Group.sub group) (g.met.G.Group.undoes group)
-        c.requires.cell.1 c.requires.cell.2 k.are_trits k.fit c.args.weight.now c.args.moved.now
-        k.weight_is k.moved_is in
-    record { within = rw c.total_of-part.ensures.sum (omega (arith, outside, part)); }
+    small_part (g.G.Monoid.number group) (g.G.Monoid.zero group) (g.G.Monoid.add group)
+    (g.met.G.Monoid.laws group) (g.G.Group.sub group) (g.met.G.Group.undoes group)
+    c.requires.cell.1 c.requires.cell.2 k.are_trits k.fit c.args.weight.now c.args.moved.now
+    k.weight_is k.moved_is in
+    record { within = rw c.total_of-part.ensures.sum (omega (arith, outside, part)) }
 
 pub add-others-requires : goal.add-others-requires
 add-others-requires g c =
     let k = c.requires.cell.3 in
     let group = c.args.self.now.group in
     let outside =
-        small_outside (g.G.Monoid.number group) (g.G.Monoid.zero group) (g.G.Monoid.add group)
-        (g.met.G.Monoid.laws group) (g.G.Group.sub group) (g.met.G.Group.undoes group)
-        c.requires.cell.1 c.requires.cell.2 k.are_trits k.fit c.args.weight.now c.args.moved.now
-        k.weight_is k.moved_is in
+    small_outside (g.G.Monoid.number group) (g.G.Monoid.zero group) (g.G.Monoid.add group)
+    (g.met.G.Monoid.laws group) (g.G.Group.sub group) (g.met.G.Group.undoes group)
+    c.requires.cell.1 c.requires.cell.2 k.are_trits k.fit c.args.weight.now c.args.moved.now
+    k.weight_is k.moved_is in
     let rest =
-        small_rest (g.G.Monoid.number group) (g.G.Monoid.zero group) (g.G.Monoid.add group)
-        (g.met.G.Monoid.laws group) (g.G.Group.sub group) (g.met.G.Group.undoes group)
-        c.requires.cell.1 c.requires.cell.2 k.are_trits k.fit c.args.weight.now c.args.moved.now
-        k.weight_is k.moved_is in
+    small_rest (g.G.Monoid.number group) (g.G.Monoid.zero group) (g.G.Monoid.add group)
+    (g.met.G.Monoid.laws group) (g.G.Group.sub group) (g.met.G.Group.undoes group)
+    c.requires.cell.1 c.requires.cell.2 k.are_trits k.fit c.args.weight.now c.args.moved.now
+    k.weight_is k.moved_is in
     record {
       within =
           rw (c.sub-rest.ensures.difference, c.total_of-part.ensures.sum)
@@ -74,9 +74,15 @@ returns-clause-updated g c shape labels trits cell =
     c.add-others.ensures.sum c.args.self.now.denominator c.zero-zero.result
     c.zero-zero.ensures.value c.in_ok-three.three c.in_ok-void.void
     (c.in_ok-three.ensures.sums
-    ∙ rw (c.fraction-away.ensures.value, c.fraction-stays.ensures.value,
-    c.fraction-goes.ensures.value) refl)
+    ∙ rw (
+      c.fraction-away.ensures.value,
+      c.fraction-stays.ensures.value,
+      c.fraction-goes.ensures.value,
+    ) refl)
     (c.in_ok-void.ensures.sums
-    ∙ rw (c.fraction-away.ensures.value, c.fraction-before.ensures.value,
-    c.fraction-none.ensures.value) refl)
+    ∙ rw (
+      c.fraction-away.ensures.value,
+      c.fraction-before.ensures.value,
+      c.fraction-none.ensures.value,
+    ) refl)
     shape
