@@ -1,0 +1,4 @@
+pub mod Rows
+pub mod Stages
+pub mod Reads
+pub mod Laws

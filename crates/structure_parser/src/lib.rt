@@ -1,0 +1,10 @@
+//! Whole files, read by stages.
+//!
+//! Seen as: the rows of a file (`specs/Rows.antt`), what the stages say of rows
+//! (`specs/Stages.antt`), and the coalgebra that a file denotes (`specs/Reads.antt`).
+//! Numbers: lines count from 1; a file has at most 2^26 bytes.
+#![tactic(auto)]
+
+mod fault;
+
+pub use fault::FileFault;
