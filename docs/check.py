@@ -6,7 +6,7 @@
 What it looks at: each wrong body that a page names is an edit of the crate that the page is about, and
 each edit is named on its crate's page; each label in a table of a crate's page is one of that crate's;
 the map of the README has the crates of crates.txt in their order; what the README shows of a run is
-what the stored run of the program prints; docs/WORDS.md is what tools/words.py prints.
+what the stored run of the program prints, and so are the examples; docs/WORDS.md is what tools/words.py prints.
 """
 import os
 import re
@@ -39,6 +39,10 @@ def labels_of(crate):
             with open(os.path.join(folder, file)) as lines:
                 text = lines.read()
             found |= set(re.findall(r"(?:ensures|requires|law|ghost) ([a-z_0-9]+) [{:=]", text))
+    specs = os.path.join(ROOT, "crates", crate, "specs")
+    for file in os.listdir(specs) if os.path.isdir(specs) else []:
+        # the parts of a record that a clause says
+        found |= set(re.findall(r"^ +pub ([a-z_0-9]+) :", text_of(specs, file), re.M))
     return found
 
 
@@ -60,7 +64,7 @@ def crate_page(crate, labels):
             continue
         for name in NAME.findall(cells[3]):
             named.add(name)
-            if "_" in name and name not in edits:
+            if "_" in name and name not in edits and name not in crates():
                 yield f"{page}: no edit `{name}`"
         for name in NAME.findall(cells[2]):
             if name not in labels:
@@ -78,11 +82,33 @@ def top_page(page, edits):
 
 
 def shown_run():
-    shown = re.search(r"\$ \./copar blocks examples/game\.copar\n(.*?)\$ ", text_of("README.md"), re.S)
-    if not shown or shown.group(1) != text_of("crates", "copar", "stdout"):
-        yield "README.md: the run is not the stored one of crates/copar"
-    if text_of("examples", "game.copar") != text_of("crates", "copar", "data", "game.copar"):
-        yield "crates/copar/data/game.copar: not the example"
+    readme = text_of("README.md")
+    for shown, where in (
+            (r"\$ cat examples/vending\.copar\n(.*?)\$ ", ("examples", "vending.copar")),
+            (r"\$ \./copar blocks examples/vending\.copar\n(.*?)\$ ", ("crates", "copar", "stdout")),
+            (r"\$ \./copar minimise examples/vending\.copar\n(.*?)```",
+             ("examples", "vending.minimised"))):
+        found = re.search(shown, readme, re.S)
+        if not found or found.group(1) != text_of(*where):
+            yield f"README.md: what it shows is not {'/'.join(where)}"
+
+
+def examples():
+    """Each example has its stored runs."""
+    stored = text_of("crates", "copar_runs", "stdout")
+    for file in sorted(os.listdir(os.path.join(ROOT, "examples"))):
+        name, dot, kind = file.partition(".")
+        if kind == "copar":
+            for crate in ("copar", "copar_runs"):
+                data = os.path.join(ROOT, "crates", crate, "data", file)
+                if os.path.isfile(data) and text_of("crates", crate, "data", file) != text_of(
+                        "examples", file):
+                    yield f"crates/{crate}/data/{file}: not the example"
+        elif kind in ("blocks", "minimised"):
+            command = {"blocks": "blocks", "minimised": "minimise"}[kind]
+            shown = f"$ copar {command} {name}.copar\n{text_of('examples', file)}ends with 0\n"
+            if shown not in stored:
+                yield f"examples/{file}: not a stored run of crates/copar_runs"
 
 
 def findings():
@@ -97,6 +123,7 @@ def findings():
     if mapped != names:
         yield "README.md: the map has not the crates of crates.txt in their order"
     yield from shown_run()
+    yield from examples()
     printed = subprocess.run([sys.executable, os.path.join(ROOT, "tools", "words.py")],
                              capture_output=True, text=True, check=True).stdout
     if printed != text_of("docs", "WORDS.md"):

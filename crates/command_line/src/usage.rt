@@ -6,8 +6,8 @@ use std::alloc::{AllocError, Global};
 /// The forms that are taken, and an example.
 const FORMS: &str = "usage: copar blocks FILE
        copar minimise FILE
-  The file has the functor `P X` on its first line, and then a line for each state with the set
-  of the states that it leads to.
+  The file has a functor on its first line, and then a line for each state: its name, a colon,
+  and its structure. Sets of states, as below, have the functor `P X`.
   blocks    prints for each state its name and the name of the first state that is equivalent
             to it
   minimise  prints the file with one state for each block, named by its first state

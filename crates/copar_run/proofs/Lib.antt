@@ -1,5 +1,3 @@
-mod Exclusion
-mod OneReading
 mod Stages
 mod Projections
 mod Told

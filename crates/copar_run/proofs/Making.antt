@@ -1,5 +1,5 @@
 -- How the parts of a run on one file make its end.
-use Rattle.std.proofs.Common.{◌≡◌, ◌≢◌, ◌⊎◌, inl, inr, ℕ, ◌≤◌, ◌<◌, List, [], ◌∷◌, length, take, refl, ap, sym, subst, Option, Some, None, IfSome}
+use Rattle.std.proofs.Common.{◌≡◌, ◌≢◌, ◌⊎◌, inl, inr, ℕ, ◌≤◌, ◌<◌, ◌+◌, ◌-◌, arith, List, [], ◌∷◌, length, take, refl, ap, sym, subst, Option, Some, None, IfSome}
 use Rattle.std.specs.FinMap as map
 use Rattle.std.specs.Io.KnownBytes.{append_known}
 use Rattle.outside.specs.Faults.{Rose}
@@ -7,10 +7,11 @@ use Rattle.outside.specs.Whole.{IsLongerThan}
 use Rattle.command_line.specs.Requests.{Request, file_of, asked, Asks, AsksNothing}
 use Rattle.typing.specs.Contents.{Content}
 use Rattle.copar_run.specs.declared.status.Status.{Status}
-use Rattle.copar_run.specs.declared.status.Status.TheVariants.{Done, Grammar, TypeFault, ReadFault, WriteFault, NoMemory, TooLong, NotBuilt}
-use Rattle.copar_run.specs.Reading.{Reads, Fault, IsFault, Tells, status_of}
+use Rattle.copar_run.specs.declared.status.Status.TheVariants.{Done, Grammar, TypeFault, WeightBound, SumFault, ReadFault, WriteFault, NoMemory, TooLong}
+use Rattle.structure_parser.specs.Reads.{Reads, Fault, IsFault, most_bytes}
+use Rattle.copar_run.specs.Reading.{Tells, status_of}
 use Rattle.copar_run.specs.Outputs.{Subject, Prints}
-use Rattle.copar_run.specs.Outcome.{Counts, Files, Outside, NoReadFailed, NoWriteFailed, most_bytes, Stage, of_file, stages_of, Holds, Denotes, Cause, Clear, Stops, Passes, Reached, PassesAll, IsSubject, Ends, Ran, IsMade, IsHalted}
+use Rattle.copar_run.specs.Outcome.{Counts, Files, Outside, NoReadFailed, NoWriteFailed, Stage, of_file, stages_of, Holds, Denotes, Cause, Clear, Stops, Passes, Reached, PassesAll, IsSubject, Ends, Ran, IsMade, IsHalted}
 use Rattle.copar_run.proofs.Projections.{apart, is_read}
 
 -- what holds of a told option, and so something else
@@ -88,17 +89,18 @@ module _ (request : Request) (name : List ℕ) (named : name ≡ file_of request
 
     -- the status tells a fault of its bytes
     pub halt-judging : (s : Status) → Tells bytes s → IsHalted request o s
-    halt-judging (Grammar line) tells = at-fault (Fault.NoFunctor line) tells
+    halt-judging (Grammar line) tells = at-fault (Fault.Grammar line) tells
     halt-judging (TypeFault line kind) tells = at-fault (Fault.Misfit line kind) tells
-    halt-judging NotBuilt tells = at-fault Fault.Unbuilt tells
+    halt-judging (WeightBound line) tells = at-fault (Fault.PastBound line) tells
+    halt-judging (SumFault line) tells = at-fault (Fault.ShortSum line) tells
     halt-judging NoMemory tells = IsHalted.ForMemory refl read
     halt-judging _ tells = absurd tells
 
     -- its coalgebra has the output
-    pub made : (output : List ℕ)
-        → ((c : Content) × Reads bytes c × Prints request (Subject.One c) 0 output)
-        → IsMade request o 0 output
-    made output (c, reads, prints) = record {
+    pub made : (rise : ℕ) (output : List ℕ)
+        → ((c : Content) × Reads bytes c × Prints request (Subject.One c) rise output)
+        → IsMade request o rise output
+    made rise output (c, reads, prints) = record {
       passes = subst (λ (all : List Stage). PassesAll o all) (sym stages) (
         got,
         (
@@ -112,7 +114,7 @@ module _ (request : Request) (name : List ℕ) (named : name ≡ file_of request
         refl,
         if-some (λ files. Holds files name bytes)
             (λ files. (subject : Subject) × IsSubject files request subject
-            × Prints request subject 0 output) o.files
+            × Prints request subject rise output) o.files
             (λ files holds. (
               Subject.One c,
               about-file files request c
@@ -123,24 +125,28 @@ module _ (request : Request) (name : List ℕ) (named : name ≡ file_of request
       read = read;
     }
 
+-- a count that did not fall rose by some number
+pub rise-of : (before after : ℕ) → before ≤ after → (rise : ℕ) × (after ≡ before + rise)
+rise-of before after grows = (after - before, omega (arith, grows))
+
 -- a halted request has written nothing
-pub end-halted : (request : Request) (o : Outside) (w : Counts) (s : Status)
-    → IsHalted request o s → NoWriteFailed w → Ends request o w 0 s []
-end-halted request o w s (IsHalted.ForMemory wanting read) written =
+pub end-halted : (request : Request) (o : Outside) (w : Counts) (rise : ℕ) (s : Status)
+    → IsHalted request o s → NoWriteFailed w → Ends request o w rise s []
+end-halted request o w rise s (IsHalted.ForMemory wanting read) written =
     Ends.WithoutMemory wanting refl read written
-end-halted request o w s (IsHalted.AtStage stage r x read) written =
+end-halted request o w rise s (IsHalted.AtStage stage r x read) written =
     Ends.Stopped stage r x refl read written
 
 -- an output that is made is written whole, or from its front
-pub end-written : (request : Request) (o : Outside) (w : Counts) (output : List ℕ)
-    → IsMade request o 0 output → NoWriteFailed w → Ends request o w 0 Done output
-end-written request o w output made written =
+pub end-written : (request : Request) (o : Outside) (w : Counts) (rise : ℕ) (output : List ℕ)
+    → IsMade request o rise output → NoWriteFailed w → Ends request o w rise Done output
+end-written request o w rise output made written =
     Ends.Worked Done output made.passes made.answers (inl (refl, refl, written)) made.read
 
-pub end-failed : (request : Request) (o : Outside) (w : Counts) (output : List ℕ) (n : ℕ)
-    → IsMade request o 0 output → Rose w.before w.now
-    → Ends request o w 0 WriteFault (take n output)
-end-failed request o w output n made rose =
+pub end-failed : (request : Request) (o : Outside) (w : Counts) (rise : ℕ) (output : List ℕ)
+    (n : ℕ) → IsMade request o rise output → Rose w.before w.now
+    → Ends request o w rise WriteFault (take n output)
+end-failed request o w rise output n made rose =
     Ends.Worked Done output made.passes made.answers (inr (refl, rose, (n, refl))) made.read
 
 -- words that make a request end as it does

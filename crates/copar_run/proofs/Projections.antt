@@ -5,10 +5,11 @@ use Rattle.outside.specs.Faults.{Rose}
 use Rattle.command_line.specs.Requests.{Request, Asks, AsksNothing}
 use Rattle.copar_run.specs.declared.status.Status.{Status}
 use Rattle.copar_run.specs.declared.status.Status.TheVariants.{Done, Usage, ReadFault, WriteFault, NoMemory}
-use Rattle.copar_run.specs.Reading.{Fault, status_of, OneReading}
+use Rattle.structure_parser.specs.Reads.{Fault}
+use Rattle.copar_run.specs.Reading.{status_of}
 use Rattle.copar_run.specs.Outputs.{Subject, Prints, MayEnd}
 use Rattle.copar_run.specs.Outcome.{Counts, Files, Outside, IsQuiet, NoReadFailed, NoWriteFailed, Stage, stages_of, Cause, MayStop, Stops, Reached, PassesAll, IsRead, IsSubject, IsOfOne, Answers, Ends, Ran, is_stop, is_end}
-use Rattle.copar_run.proofs.Stages.{told, may_stop, same_content, blocked, meet, past, read_name}
+use Rattle.copar_run.proofs.Stages.{ReadingLaws, told, may_stop, same_content, blocked, meet, past, read_name}
 
 -- the status is that of a failed read
 abbrev pub is_read : Status → Bool
@@ -31,14 +32,16 @@ pub apart : (test : Status → Bool) (s t u : Status) → test t ≡ true → te
 apart test s t u good bad e f = true≢false (sym good ∙ ap test (sym e ∙ f) ∙ bad)
 
 fault_stops : (fault : Fault) → is_stop (status_of fault) ≡ true
-fault_stops (Fault.NoFunctor line) = refl
+fault_stops (Fault.Grammar line) = refl
 fault_stops (Fault.Misfit line kind) = refl
-fault_stops Fault.Unbuilt = refl
+fault_stops (Fault.PastBound line) = refl
+fault_stops (Fault.ShortSum line) = refl
 
 fault_reads : (fault : Fault) → is_read (status_of fault) ≡ false
-fault_reads (Fault.NoFunctor line) = refl
+fault_reads (Fault.Grammar line) = refl
 fault_reads (Fault.Misfit line kind) = refl
-fault_reads Fault.Unbuilt = refl
+fault_reads (Fault.PastBound line) = refl
+fault_reads (Fault.ShortSum line) = refl
 
 -- what a stage may stop with is the status of a stage
 may_is_stop : (stage : Stage) (s : Status) → MayStop stage s → is_stop s ≡ true
@@ -184,7 +187,7 @@ module _ (words : List (List ℕ)) (o : Outside) (w : Counts) (rise : ℕ) (s : 
 not_risen : (before now : ℕ) → IsQuiet before now → Rose before now → ⊥
 not_risen before now q r = omega (arith, q.same, q.below, r)
 
-module _ (one : OneReading) (files : Files) (o : Outside) (known : o.files ≡ Some files)
+module _ (laws : ReadingLaws) (files : Files) (o : Outside) (known : o.files ≡ Some files)
     (w : Counts) (rise : ℕ) (s : Status) (output : List ℕ) (request : Request) where
   -- a cause in the files is told, unless a read failed or memory was wanting
   pub fault_is_told : (fault : Status) (stage : Stage) → Ends request o w rise s output
@@ -195,7 +198,7 @@ module _ (one : OneReading) (files : Files) (o : Outside) (known : o.files ≡ S
       let may : MayStop stage fault = may_stop files stage fault e in
       let stops : Stops o stage fault =
       inr (may, subst (λ z. IfSome z (λ f. Cause f stage fault)) (sym known) e) in
-      elim (meet one files o known (stages_of request) stage other fault s reached stops r x) [
+      elim (meet laws files o known (stages_of request) stage other fault s reached stops r x) [
         | inl same ↦ inl same
         | inr h ↦ elim h [
           | inl read ↦ absurd (true≢false (sym (ap is_read read) ∙ may_is_no_read stage fault may))
@@ -206,7 +209,7 @@ module _ (one : OneReading) (files : Files) (o : Outside) (known : o.files ≡ S
       let may : MayStop stage fault = may_stop files stage fault e in
       let stops : Stops o stage fault =
       inr (may, subst (λ z. IfSome z (λ f. Cause f stage fault)) (sym known) e) in
-      let read = blocked one files o known stage fault
+      let read = blocked laws files o known stage fault
       (past o (stages_of request) stage p reached) stops in
       absurd (true≢false (sym (ap is_read read.0) ∙ may_is_no_read stage fault may))
 
@@ -225,7 +228,7 @@ module _ (one : OneReading) (files : Files) (o : Outside) (known : o.files ≡ S
 
   one_of : (file : List ℕ) (a b : Subject) → IsOfOne files file a → IsOfOne files file b → b ≡ a
   one_of file a b x y =
-      y.1 ∙ ap Subject.One (same_content one files file x.0 y.0 x.2 y.2) ∙ sym x.1
+      y.1 ∙ ap Subject.One (same_content laws files file x.0 y.0 x.2 y.2) ∙ sym x.1
 
   -- a request is about one subject
   same_subject : (r : Request) (a b : Subject) → IsSubject files r a → IsSubject files r b → b ≡ a
@@ -242,7 +245,7 @@ module _ (one : OneReading) (files : Files) (o : Outside) (known : o.files ≡ S
   headline subject (Ends.WithoutMemory m x r q) p i quiet still = inl m
   headline subject (Ends.Stopped stage r x y e q) p i quiet still =
       let read = read_name o (stages_of request) stage r
-      (blocked one files o known stage s (past o (stages_of request) stage p r) x).1 in
+      (blocked laws files o known stage s (past o (stages_of request) stage p r) x).1 in
       absurd (not_risen (o.before read.0) (o.now read.0) (quiet read.0 read.1) read.2)
   headline subject (Ends.Worked ending whole q a (inr x) e) p i quiet still =
       absurd (not_risen w.before w.now still x.1)

@@ -5,9 +5,17 @@ use Rattle.outside.specs.Faults.{Rose}
 use Rattle.typing.specs.Contents.{Content}
 use Rattle.copar_run.specs.declared.status.Status.{Status}
 use Rattle.copar_run.specs.declared.status.Status.TheVariants as status
-use Rattle.copar_run.specs.Reading.{Reads, Fault, IsFault, status_of, OneReading}
+use Rattle.structure_parser.specs.Reads.{Reads, Fault, IsFault}
+use Rattle.structure_parser.specs.Laws.{OneReading, OneFault, FaultsRefuse}
+use Rattle.copar_run.specs.Reading.{status_of}
 use Rattle.copar_run.specs.Outcome.{Files, Outside, Stage, Holds, Denotes, Cause, Clear, FailedRead, MayStop, Stops, Passes, Reached, PassesAll}
-use Rattle.copar_run.proofs.Exclusion.{one_fault, no_fault}
+
+-- what is known of reading: a file denotes one coalgebra at most, and has one first fault at most,
+-- with which it denotes none
+pub record ReadingLaws : Type 0 where
+  pub one : OneReading
+  pub fault : OneFault
+  pub refuse : FaultsRefuse
 
 -- a file has one list of bytes
 pub same_bytes : (files : Files) (name bytes others : List ℕ) → Holds files name bytes
@@ -24,19 +32,19 @@ pub may_stop : (files : Files) (stage : Stage) (s : Status) → Cause files stag
 may_stop files (Stage.GetFile name) s e = e.0
 may_stop files (Stage.ReadFile name) s e = (e.2.0, e.2.1)
 
-module _ (one : OneReading) (files : Files) where
+module _ (laws : ReadingLaws) (files : Files) where
   -- a file denotes one coalgebra
   pub same_content : (name : List ℕ) (c d : Content) → Denotes files name c
       → Denotes files name d → d ≡ c
   same_content name c d a b =
-      one a.0 c d a.2 (subst (λ x. Reads x d) (same_bytes files name a.0 b.0 a.1 b.1) b.2)
+      laws.one a.0 c d a.2 (subst (λ x. Reads x d) (same_bytes files name a.0 b.0 a.1 b.1) b.2)
 
   -- a file that is read has no fault
   unfaulted : (name : List ℕ) (c : Content) (bytes : List ℕ) (fault : Fault)
       → Denotes files name c → Holds files name bytes → IsFault bytes fault → ⊥
   unfaulted name c bytes fault a h e =
-      no_fault a.0 c fault a.2
-      (subst (λ x. IsFault x fault) (same_bytes files name a.0 bytes a.1 h) e)
+      laws.refuse a.0 fault c
+      (subst (λ x. IsFault x fault) (same_bytes files name a.0 bytes a.1 h) e) a.2
 
   -- a stage that is clear has no cause
   pub uncaused : (stage : Stage) (s : Status) → Clear files stage → Cause files stage s → ⊥
@@ -49,7 +57,8 @@ module _ (one : OneReading) (files : Files) where
   same_fault : (name bytes others : List ℕ) (f g : Fault) → Holds files name bytes
       → Holds files name others → IsFault bytes f → IsFault others g → g ≡ f
   same_fault name bytes others f g a b e h =
-      one_fault bytes f g e (subst (λ x. IsFault x g) (same_bytes files name bytes others a b) h)
+      sym (laws.fault bytes f g e
+      (subst (λ x. IsFault x g) (same_bytes files name bytes others a b) h))
 
   -- a stage has causes for one status
   pub one_cause : (stage : Stage) (s t : Status) → Cause files stage s → Cause files stage t
@@ -62,13 +71,13 @@ module _ (one : OneReading) (files : Files) where
 abbrev pub AreSame : Status → Status → Type 0
 AreSame s t = (t ≡ s) ⊎ ((s ≡ status.ReadFault) ⊎ (t ≡ status.ReadFault))
 
-module _ (one : OneReading) (files : Files) (o : Outside) (known : o.files ≡ Some files) where
+module _ (laws : ReadingLaws) (files : Files) (o : Outside) (known : o.files ≡ Some files) where
   -- one stage stops with one status
   agree : (stage : Stage) (s t : Status) → Stops o stage s → Stops o stage t → AreSame s t
   agree stage s t (inl r) b = inr (inl r.0)
   agree stage s t (inr a) (inl r) = inr (inr r.0)
   agree stage s t (inr a) (inr b) =
-      inl (one_cause one files stage s t
+      inl (one_cause laws files stage s t
       (told o.files files (λ f. Cause f stage s) known a.1)
       (told o.files files (λ f. Cause f stage t) known b.1))
 
@@ -77,7 +86,7 @@ module _ (one : OneReading) (files : Files) (o : Outside) (known : o.files ≡ S
       → (s ≡ status.ReadFault) × FailedRead o stage
   blocked stage s p (inl r) = r
   blocked stage s p (inr a) =
-      absurd (uncaused one files stage s (told o.files files (λ f. Clear f stage) known p)
+      absurd (uncaused laws files stage s (told o.files files (λ f. Clear f stage) known p)
       (told o.files files (λ f. Cause f stage s) known a.1))
 
   -- stages that are reached stop with one status

@@ -11,7 +11,7 @@ use Rattle.command_line.specs.Requests.{Request, Asks}
 use Rattle.typing.specs.declared.kind.TypeKind.{TypeKind}
 use Rattle.typing.specs.declared.kind.TypeKind.TheVariants.{UnknownState, NotALabel, WrongShape, WrongCount, RepeatedKey, MissingKey, BadIndex, NotANumber, Negative, RepeatedState}
 use Rattle.copar_run.specs.declared.status.Status.{Status}
-use Rattle.copar_run.specs.declared.status.Status.TheVariants.{Done, Usage, Grammar, TypeFault, ReadFault, WriteFault, NoMemory, TooLong, NotBuilt}
+use Rattle.copar_run.specs.declared.status.Status.TheVariants.{Done, Usage, Grammar, TypeFault, WeightBound, SumFault, ReadFault, WriteFault, NoMemory, TooLong}
 use Rattle.copar_run.specs.Outcome.{Counts, Outside, Stage, IsQuiet, is_end, stages_of, Reached, Stops}
 
 -- how the line of a type fault ends, by its kind
@@ -35,11 +35,13 @@ line_of Usage = []
 line_of (Grammar line) = codes "copar: grammar fault on line " ++ decimal line ++ codes "\n"
 line_of (TypeFault line kind) =
     codes "copar: type fault on line " ++ decimal line ++ ending_of kind
+line_of (WeightBound line) = codes "copar: weight bound on line " ++ decimal line ++ codes "\n"
+line_of (SumFault line) =
+    codes "copar: distribution sum on line " ++ decimal line ++ codes "\n"
 line_of ReadFault = codes "copar: read fault\n"
 line_of WriteFault = codes "copar: write fault\n"
 line_of NoMemory = codes "copar: no memory\n"
 line_of TooLong = codes "copar: file longer than 67108864 bytes\n"
-line_of NotBuilt = codes "copar: not built\n"
 
 -- the line of a status with which the stage stops a run; the two stages add no word to it
 abbrev pub line_at : Stage → Status → List ℕ

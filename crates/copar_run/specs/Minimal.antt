@@ -3,17 +3,17 @@
 -- AreClasses c labels      == classes numbered by their first states, with one number for two
 --                             states exactly if they are equivalent
 -- IsQuotientOf c b d       == d is the quotient of c by b
--- canonical d              == the canonical text of d
 -- IsMinimised c output     == the output is the canonical text of the quotient by equivalence
--- SameFractions d e        == e has the term, the names and the values of d, as fractions
 -- IsMinimal c output       == and no two states of the quotient are equivalent, the text spells it,
 --                             and minimising it gives the same bytes
 use Rattle.std.specs.Prelude.{◌≡◌, ℕ, ◌<◌, ◌↔◌, List, length, slice_index, IsTrue}
 use Rattle.typing.specs.Contents.{Content, words_of}
 use Rattle.typing.specs.Stable.{AreEquivalent}
+use Rattle.structure_parser.specs.Reads.{Reads}
+use Rattle.structure_writer.specs.Text.{canonical}
+use Rattle.structure_writer.specs.Spelled.{Spells}
+use Rattle.rescaling.specs.Rescaled.{SameFractions}
 use Rattle.quotient_writer.specs.Quotient.{is_numbered, IsQuotient}
-use Rattle.quotient_writer.specs.Texts.{text_of}
-use Rattle.copar_run.specs.Reading.{Reads, Spells}
 
 -- a number for each state; classes are numbered 0, 1, 2 by their first states, and two states have
 -- one number exactly if they are behaviourally equivalent
@@ -30,10 +30,6 @@ pub record IsQuotientOf (c : Content) (b : List ℕ) (d : Content) : Type 0 wher
   pub same_denominator : d.denominator ≡ c.denominator
   pub quotient : IsQuotient c.term (words_of c) c.values b (words_of d) d.values
 
--- the canonical text of d
-abbrev pub canonical : Content → List ℕ
-canonical d = text_of (words_of d) d.values
-
 -- the output is the canonical text of the quotient by the classes of equivalence
 pub record IsMinimised (c : Content) (output : List ℕ) : Type 0 where
   pub labels : List ℕ
@@ -42,16 +38,10 @@ pub record IsMinimised (c : Content) (output : List ℕ) : Type 0 where
   pub quotient : IsQuotientOf c labels least
   pub text : output ≡ canonical least
 
--- e has the term, the names and the values of d, as fractions. In sets of states there is no
--- fraction, so the values are the same.
-pub record SameFractions (d e : Content) : Type 0 where
-  pub same_term : e.term ≡ d.term
-  pub same_names : words_of e ≡ words_of d
-  pub same_values : e.values ≡ d.values
-
 -- The output is that text, and no two states of the quotient are equivalent. The text spells the
--- quotient. If it is accepted as a file, it denotes the quotient, and what is printed for this file
--- is the same text.
+-- quotient, by the grammar without bounds on weights and length. If it is accepted as a file, it
+-- denotes a coalgebra with the same term, names and fractions, whose common denominator may be
+-- smaller, and what is printed for this file is the same text.
 pub record IsMinimal (c : Content) (output : List ℕ) : Type 0 where
   pub minimised : IsMinimised c output
   pub minimal : (k l : ℕ) → AreEquivalent minimised.least.term minimised.least.values k l → k ≡ l

@@ -24,8 +24,9 @@ use Rattle.command_line.specs.Requests.{Request, Asks, AsksNothing}
 use Rattle.typing.specs.Contents.{Content}
 use Rattle.copar_run.specs.declared.status.Status.{Status}
 use Rattle.copar_run.specs.declared.status.Status.TheVariants as status
-use Rattle.copar_run.specs.declared.status.Status.TheVariants.{Done, Usage, Grammar, TypeFault, ReadFault, WriteFault, NoMemory, TooLong, NotBuilt}
-use Rattle.copar_run.specs.Reading.{Reads, Fault, IsFault, status_of}
+use Rattle.copar_run.specs.declared.status.Status.TheVariants.{Done, Usage, Grammar, TypeFault, WeightBound, SumFault, ReadFault, WriteFault, NoMemory, TooLong}
+use Rattle.structure_parser.specs.Reads.{Reads, Fault, IsFault, most_bytes}
+use Rattle.copar_run.specs.Reading.{status_of}
 use Rattle.copar_run.specs.Outputs.{Subject, Prints, MayEnd}
 
 -- the number that the program ends with
@@ -34,11 +35,12 @@ code_of Done = 0
 code_of Usage = 2
 code_of (Grammar line) = 3
 code_of (TypeFault line kind) = 4
+code_of (WeightBound line) = 5
+code_of (SumFault line) = 6
 code_of ReadFault = 9
 code_of WriteFault = 10
 code_of NoMemory = 11
 code_of TooLong = 12
-code_of NotBuilt = 13
 
 -- a status with which a stage may stop a request
 abbrev pub is_stop : Status → Bool
@@ -56,10 +58,6 @@ is_end _ = false
 -- the files of a folder, by name
 abbrev pub Files : Type 0
 Files = map.FinMap (slice_cmp nat_cmp) (List ℕ)
-
--- the most bytes that a file may have, 67,108,864
-abbrev pub most_bytes : ℕ
-most_bytes = 2 ^ 26
 
 -- what a run met outside: the files, where the folder tells them, and for each name its count of
 -- faults before and after

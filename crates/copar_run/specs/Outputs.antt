@@ -9,6 +9,7 @@
 use Rattle.std.specs.Prelude.{◌≡◌, ℕ, List}
 use Rattle.command_line.specs.Requests.{Request}
 use Rattle.typing.specs.Contents.{Content}
+use Rattle.classes.specs.Counted.{IsCounted as IsRefined}
 use Rattle.copar_run.specs.declared.status.Status.{Status}
 use Rattle.copar_run.specs.declared.status.Status.TheVariants.{Done}
 use Rattle.copar_run.specs.Blocks.{IsBlockList}
@@ -18,9 +19,10 @@ use Rattle.copar_run.specs.Minimal.{IsMinimal}
 pub data Subject : Type 0 where
   One : Content → Subject
 
--- the work on a coalgebra takes so many steps; rounds over all states count none
+-- the work on a coalgebra takes so many steps: they are those of a legal history of smaller halves
+-- over a system of its structures, which ends in the classes of equivalence
 abbrev pub IsCounted : Content → ℕ → Type 0
-IsCounted c rise = rise ≡ 0
+IsCounted c rise = (sorted edges : ℕ) × IsRefined c sorted edges rise
 
 -- the status may come once the output is written
 abbrev pub MayEnd : Request → Status → Type 0

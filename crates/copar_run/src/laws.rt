@@ -3,20 +3,11 @@ ghost use Rattle.std.specs.Prelude.{◌≡◌, ◌≢◌, ◌⊎◌, ℕ, List, 
 ghost use Rattle.outside.specs.Faults.{Rose};
 ghost use Rattle.command_line.specs.Requests.{Request, Asks, AsksNothing};
 ghost use Rattle.copar_run.specs.declared.status.Status.{Status as Ending};
-ghost use Rattle.copar_run.specs.Reading.{OneReading};
 ghost use Rattle.copar_run.specs.Outputs.{Subject, Prints, MayEnd};
 ghost use Rattle.copar_run.specs.Outcome.{Counts, Files, IsQuiet, NoReadFailed, NoWriteFailed, Outside, Stage, stages_of, Cause, Reached, PassesAll, Stops, IsRead, IsSubject, Answers, Ran, is_stop, is_end};
 
 use crate::Status;
-use typing::{equality_is_an_equivalence, normal_values_are_unique};
-
-/// A file denotes one coalgebra at most, its denominator with it.
-pub fn files_have_one_reading()
-    ensures one_reading { OneReading }
-{
-    equality_is_an_equivalence();
-    normal_values_are_unique();
-}
+use structure_parser::{faults_refuse_files, files_have_one_fault, files_have_one_reading};
 
 /// Where the folder tells its files, the stages of a request stop it with one status, save for
 /// failed reads.
@@ -27,6 +18,8 @@ pub fn one_stage_stops()
         (t ≡ s) ⊎ ((s ≡ Status.ReadFault) ⊎ (t ≡ Status.ReadFault)) }
 {
     files_have_one_reading();
+    files_have_one_fault();
+    faults_refuse_files();
 }
 
 /// What follows from how a run ends. The top call has each of these as a clause of its own.
@@ -76,4 +69,6 @@ pub fn runs_end_so()
         (s ≡ Status.NoMemory) ⊎ (MayEnd request s × Prints request subject rise output) }
 {
     files_have_one_reading();
+    files_have_one_fault();
+    faults_refuse_files();
 }

@@ -3,9 +3,8 @@
 //!
 //! Shape: words, then the bytes of the file, then its coalgebra, then the text that is asked for;
 //! each stage gives the next its value, or the status that the run ends with.
-//! Seen as: the words, the files of a folder, the bytes that two sinks took, and a status. What the
-//! bytes of a file are read as stands in `specs/Reading.antt`, what a command prints in
-//! `specs/Outputs.antt`, what a status says in `specs/Outcome.antt`.
+//! Seen as: the words, the files of a folder, the bytes that two sinks took, and a status. What a
+//! command prints stands in `specs/Outputs.antt`, what a status says in `specs/Outcome.antt`.
 //! Limits: a file has at most 67,108,864 bytes. The output is made whole before its first byte is
 //! written.
 #![tactic(auto)]
@@ -17,6 +16,6 @@ mod status;
 mod top;
 
 pub use command_line::WordList;
-pub use laws::{files_have_one_reading, one_stage_stops, runs_end_so};
+pub use laws::{one_stage_stops, runs_end_so};
 pub use status::Status;
 pub use top::{answer, run};

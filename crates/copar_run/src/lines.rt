@@ -77,11 +77,16 @@ pub(crate) fn put_line<E: Sink>(err: &mut E, status: Status)
             line,
             ending(kind),
         ),
+        Status::WeightBound { line } => {
+            put_numbered(err, b"copar: weight bound on line ", line, b"\n")
+        }
+        Status::SumFault { line } => {
+            put_numbered(err, b"copar: distribution sum on line ", line, b"\n")
+        }
         Status::ReadFault => put_text(err, b"copar: read fault\n"),
         Status::WriteFault => put_text(err, b"copar: write fault\n"),
         Status::NoMemory => put_text(err, b"copar: no memory\n"),
         Status::TooLong => put_text(err, b"copar: file longer than 67108864 bytes\n"),
-        Status::NotBuilt => put_text(err, b"copar: not built\n"),
     }
 }
 

@@ -11,10 +11,16 @@ pub enum Status {
     Done,
     /// The words ask for nothing that the program does.
     Usage,
-    /// The file has no functor line. The line is the number of its line feeds and one.
+    /// This line of the file is the first that is not of its form. Where there is no functor line,
+    /// it is the number of the file's line feeds and one.
     Grammar { line: u32 },
     /// This line of the file does not fit, and is the first.
     TypeFault { line: u32, kind: TypeKind },
+    /// This line is the first with a number over its bound, or the first at which the common
+    /// denominator is over its limit.
+    WeightBound { line: u32 },
+    /// This line is the first with a distribution whose weights do not sum to 1.
+    SumFault { line: u32 },
     /// A read of the file failed. An absent file is such a failure.
     ReadFault,
     /// A write of the output failed. What was written is the output from its front.
@@ -23,8 +29,6 @@ pub enum Status {
     NoMemory,
     /// The file has more than 67,108,864 bytes.
     TooLong,
-    /// The file has a functor line, but is of a form that is not built.
-    NotBuilt,
 }
 
 impl Status {
@@ -37,11 +41,12 @@ impl Status {
             Status::Usage => 2,
             Status::Grammar { line: _ } => 3,
             Status::TypeFault { line: _, kind: _ } => 4,
+            Status::WeightBound { line: _ } => 5,
+            Status::SumFault { line: _ } => 6,
             Status::ReadFault => 9,
             Status::WriteFault => 10,
             Status::NoMemory => 11,
             Status::TooLong => 12,
-            Status::NotBuilt => 13,
         }
     }
 }

@@ -6,9 +6,10 @@ ghost use Rattle.command_line.specs.Asked.{denoted};
 ghost use Rattle.command_line.specs.Requests.{Request as Wanted, Asks, AsksNothing};
 ghost use Rattle.typing.specs.Contents.{Content};
 ghost use Rattle.copar_run.specs.declared.status.Status.{Status as Ending};
-ghost use Rattle.copar_run.specs.Reading.{Reads, Tells};
+ghost use Rattle.structure_parser.specs.Reads.{Reads, most_bytes};
+ghost use Rattle.copar_run.specs.Reading.{Tells};
 ghost use Rattle.copar_run.specs.Outputs.{Subject, Prints, MayEnd};
-ghost use Rattle.copar_run.specs.Outcome.{Files, IsQuiet, Stage, stages_of, Holds, Cause, Stops, Reached, PassesAll, IsRead, IsSubject, Ends, IsHalted, IsMade, Ran, counts, is_end, is_stop, met, most_bytes};
+ghost use Rattle.copar_run.specs.Outcome.{Files, IsQuiet, Stage, stages_of, Holds, Cause, Stops, Reached, PassesAll, IsRead, IsSubject, Ends, IsHalted, IsMade, Ran, counts, is_end, is_stop, met};
 ghost use Rattle.copar_run.specs.Lines.{IsToldOn};
 
 use crate::Status;
@@ -16,29 +17,39 @@ use crate::laws::runs_end_so;
 use crate::lines::tell;
 use crate::outputs::output_of;
 use command_line::{Request, WordList, asked_by};
-use flat_files::{FlatFault, read_flat};
 use outside::{Folder, ReadAll, Sink, Steps, put_all, read_all};
 use std::alloc::Global;
 use std::sync::ledger::Ledger;
+use structure_parser::{FileFault, read_file};
 
 /// The most bytes that a file may have.
 const MOST_BYTES: u64 = 67_108_864;
 
 /// What the request prints for the coalgebra that the bytes denote, or why there is no output.
-fn output_for(alloc: Global, request: Request, bytes: &[u8]) -> Result<Vec<u8>, Status>
-    requires { length bytes.now ≤ 2 ^ 26 }
-    ensures output { IfOk result (λ output. (c : Content) × Reads bytes.now c
-        × Prints (denoted request.entry) (Subject.One c) 0 output.items) }
+fn output_for<L: Ledger>(
+    alloc: Global,
+    request: Request,
+    bytes: &[u8],
+    steps: &mut Steps<L>,
+) -> Result<Vec<u8>, Status>
+    requires small { length bytes.now ≤ most_bytes }
+    requires steps_fit { steps.old ≤ 2 ^ 60 }
+    ensures output { IfOk result (λ output. (rise : ℕ) × (steps.new ≡ steps.old + rise)
+        × ((c : Content) × Reads bytes.now c
+        × Prints (denoted request.entry) (Subject.One c) rise output.items)) }
     ensures fault { IfErr result (Tells bytes.now) }
+    ensures grows { steps.old ≤ steps.new }
 {
-    let c = match read_flat(alloc, bytes) {
+    let c = match read_file(alloc, bytes) {
         Ok(c) => c,
-        Err(FlatFault::Grammar { line }) => return Err(Status::Grammar { line }),
-        Err(FlatFault::NotBuilt) => return Err(Status::NotBuilt),
-        Err(FlatFault::Misfit { line, kind }) => return Err(Status::TypeFault { line, kind }),
-        Err(FlatFault::NoMemory) => return Err(Status::NoMemory),
+        Err(FileFault::TooLong) => unreachable!(),
+        Err(FileFault::Grammar { line }) => return Err(Status::Grammar { line }),
+        Err(FileFault::TypeFault { line, kind }) => return Err(Status::TypeFault { line, kind }),
+        Err(FileFault::WeightBound { line }) => return Err(Status::WeightBound { line }),
+        Err(FileFault::SumFault { line }) => return Err(Status::SumFault { line }),
+        Err(FileFault::NoMemory) => return Err(Status::NoMemory),
     };
-    match output_of(alloc, request, &c) {
+    match output_of(alloc, request, &c, steps) {
         Ok(output) => Ok(output),
         Err(_) => Err(Status::NoMemory),
     }
@@ -67,13 +78,17 @@ fn file_bytes<F: Folder>(alloc: Global, folder: &mut F, name: &str) -> Result<Ve
 }
 
 /// The output of a request over the folder, or why there is none.
-fn output_over<F: Folder>(
+fn output_over<F: Folder, L: Ledger>(
     alloc: Global,
     request: Request,
     folder: &mut F,
+    steps: &mut Steps<L>,
 ) -> Result<Vec<u8>, Status>
-    ensures made { IfOk result (λ output. IsMade (denoted request.entry) (met (F.files folder.old)
-        (F.faults folder.old) (F.faults folder.new)) 0 output.items) }
+    requires steps_fit { steps.old ≤ 2 ^ 60 }
+    ensures made { IfOk result (λ output. (rise : ℕ) × (steps.new ≡ steps.old + rise)
+        × IsMade (denoted request.entry) (met (F.files folder.old)
+        (F.faults folder.old) (F.faults folder.new)) rise output.items) }
+    ensures grows { steps.old ≤ steps.new }
     ensures halted { IfErr result (λ status. IsHalted (denoted request.entry)
         (met (F.files folder.old) (F.faults folder.old) (F.faults folder.new)) status) }
     ensures files_stay { F.files folder.new ≡ F.files folder.old }
@@ -81,24 +96,32 @@ fn output_over<F: Folder>(
         F.faults folder.old other ≤ F.faults folder.new other }
 {
     match file_bytes(alloc, folder, request.file()) {
-        Ok(bytes) => output_for(alloc, request, &bytes),
+        Ok(bytes) => output_for(alloc, request, &bytes, steps),
         Err(status) => Err(status),
     }
 }
 
 /// Answers a request over the folder on `out`, and says how that ended.
-fn work<F: Folder, O: Sink>(alloc: Global, request: Request, folder: &mut F, out: &mut O) -> Status
-    ensures ends { (output : List ℕ) × (O.taken out.new ≡ append_known (O.taken out.old) output)
+fn work<F: Folder, O: Sink, L: Ledger>(
+    alloc: Global,
+    request: Request,
+    folder: &mut F,
+    out: &mut O,
+    steps: &mut Steps<L>,
+) -> Status
+    requires steps_fit { steps.old ≤ 2 ^ 60 }
+    ensures ends { (rise : ℕ) × (output : List ℕ) × (steps.new ≡ steps.old + rise)
+        × (O.taken out.new ≡ append_known (O.taken out.old) output)
         × (output ≡ [] → result ≢ Status.WriteFault → out.new ≡ out.old)
         × Ends (denoted request.entry)
         (met (F.files folder.old) (F.faults folder.old) (F.faults folder.new))
-        (counts (O.faults out.old) (O.faults out.new)) 0 result output }
+        (counts (O.faults out.old) (O.faults out.new)) rise result output }
     ensures files_stay { F.files folder.new ≡ F.files folder.old }
     ensures folder_later { (other : List ℕ) →
         F.faults folder.old other ≤ F.faults folder.new other }
     ensures out_later { O.faults out.old ≤ O.faults out.new }
 {
-    match output_over(alloc, request, folder) {
+    match output_over(alloc, request, folder, steps) {
         Ok(output) => {
             if put_all(out, &output) {
                 Status::Done
@@ -111,11 +134,19 @@ fn work<F: Folder, O: Sink>(alloc: Global, request: Request, folder: &mut F, out
 }
 
 /// Reads the words and answers what they ask for, and says how that ended.
-fn ended<F: Folder, O: Sink>(alloc: Global, words: &WordList, folder: &mut F, out: &mut O) -> Status
-    ensures ends { (output : List ℕ) × (O.taken out.new ≡ append_known (O.taken out.old) output)
+fn ended<F: Folder, O: Sink, L: Ledger>(
+    alloc: Global,
+    words: &WordList,
+    folder: &mut F,
+    out: &mut O,
+    steps: &mut Steps<L>,
+) -> Status
+    requires steps_fit { steps.old ≤ 2 ^ 60 }
+    ensures ends { (rise : ℕ) × (output : List ℕ) × (steps.new ≡ steps.old + rise)
+        × (O.taken out.new ≡ append_known (O.taken out.old) output)
         × (output ≡ [] → result ≢ Status.WriteFault → out.new ≡ out.old)
         × Ran words.now (met (F.files folder.old) (F.faults folder.old) (F.faults folder.new))
-        (counts (O.faults out.old) (O.faults out.new)) 0 result output }
+        (counts (O.faults out.old) (O.faults out.new)) rise result output }
     ensures unread { result ≡ Status.Usage → folder.new ≡ folder.old }
     ensures files_stay { F.files folder.new ≡ F.files folder.old }
     ensures folder_later { (other : List ℕ) →
@@ -123,7 +154,7 @@ fn ended<F: Folder, O: Sink>(alloc: Global, words: &WordList, folder: &mut F, ou
     ensures out_later { O.faults out.old ≤ O.faults out.new }
 {
     match asked_by(alloc, words) {
-        Ok(Some(request)) => work(alloc, request, folder, out),
+        Ok(Some(request)) => work(alloc, request, folder, out, steps),
         Ok(None) => Status::Usage,
         Err(_) => Status::NoMemory,
     }
@@ -193,7 +224,7 @@ pub fn answer<F: Folder, O: Sink, L: Ledger>(
     ensures out_later { O.faults out.old ≤ O.faults out.new }
 {
     runs_end_so();
-    ended(alloc, words, folder, out)
+    ended(alloc, words, folder, out, steps)
 }
 
 /// Does all that the program does: it answers the words over the folder on `out`, or says on `err`

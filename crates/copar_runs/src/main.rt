@@ -15,7 +15,19 @@ const LINES: &[&[&str]] = &[
     &["blocks", "."],
     &["blocks", "no_functor.copar"],
     &["minimise", "no_such_state.copar"],
-    &["blocks", "not_built.copar"],
+    &["blocks", "unformed.copar"],
+    &["blocks", "past_bound.copar"],
+    &["blocks", "short_sum.copar"],
+    &["blocks", "vending.copar"],
+    &["minimise", "vending.copar"],
+    &["blocks", "even.copar"],
+    &["minimise", "even.copar"],
+    &["blocks", "die.copar"],
+    &["minimise", "die.copar"],
+    &["blocks", "cancel.copar"],
+    &["minimise", "cancel.copar"],
+    &["blocks", "segala.copar"],
+    &["minimise", "segala.copar"],
 ];
 
 fn main(rt: HostRuntime) -> io::Result<()> {

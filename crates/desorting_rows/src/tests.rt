@@ -3,7 +3,7 @@
 ghost use Rattle.std.specs.Prelude.{◌<◌};
 
 use desorting::{System, desort};
-use flat_files::read_flat;
+use structure_parser::read_file;
 use std::alloc::{AllocError, Global};
 use std::process::Abort;
 use std::test::Fail;
@@ -36,7 +36,7 @@ fn told(rt: &impl Abort, alloc: Global, file: &[u8]) -> Result<String, AllocErro
     if LONGEST < file.len() {
         return Ok(String::new(alloc));
     }
-    match read_flat(alloc, file) {
+    match read_file(alloc, file) {
         Ok(c) => {
             let system = desort(alloc, &c)?;
             shapes_are_sets(rt, &system);

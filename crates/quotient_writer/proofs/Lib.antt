@@ -2,9 +2,6 @@ pub mod Picks
 pub mod Composed
 pub mod QuotientLaws
 pub mod Classes
-pub mod TextLaws
-pub mod LineTokens
-pub mod ReadBack
 pub mod OwnQuotient
 pub mod NumberLaws
 pub mod ClassLaws

@@ -1,6 +1,5 @@
 //! Laws of quotients, each the contract of a function that does nothing.
 ghost use Rattle.quotient_writer.specs.Laws.{NamesAreDetermined, ValuesAreDetermined, QuotientsAreMinimal, MinimalSystemsAreTheirOwnQuotients};
-ghost use Rattle.quotient_writer.specs.ReadBack.{TextsAreReadBack};
 
 /// Two quotients by one list have the same names and values.
 pub fn quotients_are_determined()
@@ -11,12 +10,6 @@ pub fn quotients_are_determined()
 /// Where equivalent states have one label, no two states of the quotient are equivalent.
 pub fn quotients_are_minimal()
     ensures { QuotientsAreMinimal }
-{}
-
-/// The canonical text of a system of sets of states is a file of flat lines without a fault, and it
-/// is read as that system.
-pub fn texts_are_read_back()
-    ensures { TextsAreReadBack }
 {}
 
 /// Where no two states have one label, the quotient is the system itself.

@@ -1,8 +1,7 @@
 //! The quotient of a coalgebra by its classes, and the texts of the quotient and of the block list.
 //!
 //! Seen as: the names and values of the quotient (`specs/Quotient.antt`), and texts as lists of
-//! bytes (`specs/Texts.antt`, `specs/Blocks.antt`). The text of a system is that of sets of states,
-//! so far.
+//! bytes (`specs/Blocks.antt`). The text of a quotient is that of every coalgebra.
 //! Numbers: classes are numbered from 0 by their first states, and each has the name of its first
 //! state.
 //! Source: quotients of coalgebras, J. Rutten, "Universal coalgebra: a theory of systems" (2000).
@@ -12,15 +11,14 @@ mod block_list;
 mod laws;
 mod making;
 mod numbering;
-mod system_text;
 #[cfg(test)]
 mod tests;
+mod text;
 
 pub use block_list::blocks_text;
 pub use laws::{
     minimal_systems_are_their_own_quotients, quotients_are_determined, quotients_are_minimal,
-    texts_are_read_back,
 };
 pub use making::quotient;
 pub use numbering::class_numbers;
-pub use system_text::quotient_text;
+pub use text::quotient_text;

@@ -2,6 +2,10 @@
 #![tactic(auto)]
 
 #[cfg(test)]
+mod families;
+#[cfg(test)]
+mod generated;
+#[cfg(test)]
 mod tables;
 #[cfg(test)]
 mod tests;

@@ -51,7 +51,58 @@ pub(crate) const LISTED: &[(&str, &[u8], &[u8])] = &[
         b"P X\ninjured: {}\n",
         b"injured injured\n",
     ),
+    ("distributions, and no state", b"D X\n", b""),
+    ("parentheses", b"(P (X))\na: {a}\n", b"a a\n"),
+    (
+        "an automaton",
+        AUTOMATON,
+        b"q q\np q\nr r\n",
+    ),
+    ("a chain that lumps to a point", CHAIN, b"q q\np q\nr q\n"),
+    (
+        "weights that cancel",
+        b"Z^(X)\na: {b: 1, c: -1}\nb: {}\nc: {}\n",
+        b"a a\nb a\nc a\n",
+    ),
+    (
+        "weights to states that differ",
+        DIFFER,
+        b"a a\nb b\nc c\nd d\n",
+    ),
+    (
+        "weights that cancel within classes",
+        CANCEL,
+        b"a a\nb b\nc b\nd a\n",
+    ),
+    ("the identity", b"X\na: b\nb: a\n", b"a a\nb a\n"),
+    (
+        "a constant",
+        b"{u,v}\na: u\nb: v\nc: (u)\n",
+        b"a a\nb b\nc a\n",
+    ),
+    (
+        "whole numbers",
+        b"N x X\na: (007, a)\nb: (7, a)\nc: (8, a)\n",
+        b"a a\nb a\nc c\n",
+    ),
+    ("a machine for drinks", DRINKS, b"idle idle\nready ready\nserved idle\nidle2 idle\nready2 ready\nbroken broken\n"),
 ];
+
+const AUTOMATON: &[u8] =
+    b"{f,n} x X^{a,b}\nq: (n, {a: p, b: r})\np: (n, {a: q, b: r})\nr: (f, {a: q, b: p})\n";
+
+const CHAIN: &[u8] = b"DX\nq: {p: 0.5, r: 0.5}\np: {q: 0.4, r: 0.6}\nr: {r: 1}\n";
+
+const DIFFER: &[u8] = b"2 x Z^(X)\na: (0, {b: 1, c: -1})\nb: (1, {})\nc: (0, {})\n\
+    d: (0, {c: 1, a: -1})\n";
+
+const CANCEL: &[u8] = b"2 x Z^(X)\na: (0, {b: 1, c: -1, a: 1, d: -1})\nb: (1, {})\n\
+    c: (1, {})\nd: (0, {})\n";
+
+const DRINKS: &[u8] = b"# a drinks machine\r\nP({coin, tea} x D X)\r\n\r\n\
+    idle: {(coin, {ready: 9/10, idle: 1/10})}\r\nready: {(tea, {served: 1})}\r\n\
+    served: {(coin, {ready2: 0.9, idle2: 0.1})}\r\nidle2: {(coin, {ready: 0.9, served: 0.1})}\r\n\
+    ready2: {(tea, {idle: 0.5, idle2: 0.5})}\r\nbroken: {}\r\n";
 
 /// Files without a functor line, and the line that is told.
 pub(crate) const WITHOUT_FUNCTOR: &[(&str, &[u8], u32)] = &[
@@ -63,35 +114,37 @@ pub(crate) const WITHOUT_FUNCTOR: &[(&str, &[u8], u32)] = &[
     ("notes behind blanks", b"  # a\n\t# b\r\n", 3),
 ];
 
-/// Files of a form that is not built.
-pub(crate) const NOT_BUILT: &[(&str, &[u8])] = &[
-    ("another functor", b"D X\n"),
-    ("another functor, and a misfit", b"D X\na: {zz}\n"),
-    ("a letter more", b"P X X\n"),
-    ("a letter too few", b"P\n"),
-    ("parentheses", b"(P X)\n"),
-    ("a note behind the functor", b"P X # sets\n"),
-    ("two returns", b"P X\r\r\n"),
-    ("a byte order mark", b"\xef\xbb\xbfP X\n"),
-    ("parentheses for braces", b"P X\na: (a)\n"),
-    ("braces left open", b"P X\na: {b"),
-    ("the head inj", b"P X\ninj: {}\n"),
-    ("the member inj", b"P X\na: {inj}\n"),
-    ("a comma too many", b"P X\na: {a,}\n"),
-    ("a comma too few", b"P X\na: {a a}\n"),
-    ("no colon", b"P X\na {}\n"),
-    ("no head", b"P X\n: {}\n"),
-    ("a line with a note behind it", b"P X\na: {} # end\n"),
-    ("a number sign in a head", b"P X\na#: {}\n"),
-    ("a return inside a line", b"P X\na: {}\rb: {}\n"),
-    ("a byte 0", b"P X\na\x00: {}\n"),
-    ("a weight", b"P X\na: {a: 1}\n"),
-    ("a set of sets", b"P X\na: {{}}\n"),
-    ("two sets", b"P X\na: {} {}\n"),
-    (
-        "a misfit, and then a form that is not built",
-        b"P X\na: {zz}\nb: (a)\n",
-    ),
+/// Files with a line that is not of its form, and the first such line.
+pub(crate) const UNFORMED: &[(&str, &[u8], u32)] = &[
+    ("a letter more", b"P X X\n", 1),
+    ("a letter too few", b"P\n", 1),
+    ("a letter of no functor", b"R^(X)\n", 1),
+    ("integers without parentheses", b"Z X\n", 1),
+    ("a note behind the functor", b"P X # sets\n", 1),
+    ("two returns", b"P X\r\r\n", 1),
+    ("a byte order mark", b"\xef\xbb\xbfP X\n", 1),
+    ("a label twice", b"{f,n,f} x X\n", 1),
+    ("a constant of no label", b"0 x X\n", 1),
+    ("an open constant", b"{f,n x X\n", 1),
+    ("a plus at the end", b"1 + X +\n", 1),
+    ("braces left open", b"P X\na: {b", 2),
+    ("the head inj", b"P X\ninj: {}\n", 2),
+    ("the member inj", b"P X\na: {inj}\n", 2),
+    ("a comma too many", b"P X\na: {a,}\n", 2),
+    ("a comma too few", b"P X\na: {a a}\n", 2),
+    ("no colon", b"P X\na {}\n", 2),
+    ("no head", b"P X\n: {}\n", 2),
+    ("a line with a note behind it", b"P X\na: {} # end\n", 2),
+    ("a number sign in a head", b"P X\na#: {}\n", 2),
+    ("a return inside a line", b"P X\na: {}\rb: {}\n", 2),
+    ("a byte 0", b"P X\na\x00: {}\n", 2),
+    ("two sets", b"P X\na: {} {}\n", 2),
+    ("a plus sign before a weight", b"Q^(X)\na: {a: +1}\n", 2),
+    ("two colons", b"D X\na: {a: 1: 2}\n", 2),
+    ("an index of letters", b"1 + X\na: inj x a\n", 2),
+    ("empty parentheses", b"2 x X\na: ()\n", 2),
+    ("a misfit, and later no line", b"P X\na: {zz}\nb: {", 3),
+    ("a weight over its bound, and later no line", b"D X\na: {a: 1/2199023255552}\nb\n", 3),
 ];
 
 /// Files that do not fit, with the line and the kind that are told.
@@ -142,6 +195,96 @@ pub(crate) const MISFITS: &[(&str, &[u8], u32, TypeKind)] = &[
         UNKNOWN,
     ),
     ("another case", b"P X\na: {A}\n", 2, UNKNOWN),
+    ("parentheses for braces", b"P X\na: (a)\n", 2, TypeKind::WrongShape),
+    ("a weight in a set", b"P X\na: {a: 1}\n", 2, TypeKind::WrongShape),
+    ("a set in a set of states", b"P X\na: {{}}\n", 2, TypeKind::WrongShape),
+    ("a distribution without a weight", b"D X\na: {zz}\n", 2, TypeKind::WrongShape),
+    (
+        "no state, and later a misfit of another kind",
+        b"P X\na: {zz}\nb: (a)\n",
+        2,
+        UNKNOWN,
+    ),
+    ("one part for two", b"2 x X\na: (0)\n", 2, TypeKind::WrongShape),
+    ("three parts for two", b"2 x X\na: (0, a, a)\n", 2, TypeKind::WrongCount),
+    ("a number that is no label", b"2 x X\na: (2, a)\n", 2, TypeKind::NotALabel),
+    ("a word that is no label", b"{f,n} x X\na: (g, a)\n", 2, TypeKind::NotALabel),
+    ("a label without an entry", b"X^2\na: {0: a}\n", 2, TypeKind::MissingKey),
+    (
+        "a label with two entries",
+        b"X^2\na: {0: a, 0: a, 1: a}\n",
+        2,
+        TypeKind::RepeatedKey,
+    ),
+    ("an index past the parts", b"1 + X\na: inj 2 a\n", 2, TypeKind::BadIndex),
+    ("a bag with a negative weight", b"B X\na: {a: -1}\n", 2, TypeKind::Negative),
+    (
+        "a bag with a negative weight over its bound",
+        b"B X\na: {a: -2199023255552}\n",
+        2,
+        TypeKind::Negative,
+    ),
+    ("a bag with a fraction", b"B X\na: {a: 1/2}\n", 2, TypeKind::NotANumber),
+    ("whole weights without one", b"Z^(X)\na: {a}\n", 2, TypeKind::WrongShape),
+    ("a denominator of 0", b"Z^(X)\na: {a: 1/0}\n", 2, TypeKind::NotANumber),
+    ("a point without a digit before it", b"Q^(X)\na: {a: .5}\n", 2, TypeKind::NotANumber),
+    ("an exponent", b"Q^(X)\na: {a: 1e3}\n", 2, TypeKind::NotANumber),
+    ("a sign in a whole number", b"N x X\na: (-1, a)\n", 2, TypeKind::NotALabel),
+    (
+        "a sum that is short, and later no state",
+        b"D X\na: {a: 1/2}\nb: {zz: 1}\n",
+        3,
+        UNKNOWN,
+    ),
+    (
+        "a weight over its bound, and later no state",
+        b"D X\na: {a: 2199023255552}\nb: {zz: 1}\n",
+        3,
+        UNKNOWN,
+    ),
+];
+
+/// Files with a number over its bound, and the line that is told.
+pub(crate) const PAST_BOUND: &[(&str, &[u8], u32)] = &[
+    (
+        "a weight one past its bound",
+        b"Z^(X)\na: {a: 1099511627777}\n",
+        2,
+    ),
+    (
+        "a whole number one past its bound",
+        b"N x X\na: (1099511627777, a)\n",
+        2,
+    ),
+    (
+        "a common denominator past its bound",
+        b"Q^(X)\na: {a: 1/1099511627776}\nb: {b: 1/3}\n",
+        3,
+    ),
+    (
+        "a numerator past its bound that would cancel",
+        b"Q^(X)\na: {a: 2199023255552/2199023255552}\n",
+        2,
+    ),
+    (
+        "a sum that is short, and later a weight over its bound",
+        b"D X\na: {a: 1/2}\nb: {b: 2199023255552}\n",
+        3,
+    ),
+    (
+        "merged weights printed, and given again",
+        b"Z^(X)\na: {b: 2199023255552}\nb: {}\n",
+        2,
+    ),
+];
+
+/// Files with a distribution that does not sum to 1, and the line that is told.
+pub(crate) const SHORT: &[(&str, &[u8], u32)] = &[
+    ("five sixths", b"D X\na: {a: 1/2, b: 1/3}\nb: {b: 1}\n", 2),
+    ("no element", b"D X\na: {}\n", 2),
+    ("a half twice and a third", b"D X\na: {a: 1/2, a: 1/2}\nb: {a: 1/2, b: 1/2, a: 1/3}\n", 3),
+    ("an inner one", b"P D X\na: {{a: 1}, {a: 999999999999/1000000000000}}\n", 2),
+    ("a weight of 0 alone", b"2 x D X\na: (0, {a: 0})\n", 2),
 ];
 
 /// Files, and what is printed where they are minimised.
@@ -183,7 +326,72 @@ pub(crate) const MINIMISED: &[(&str, &[u8], &[u8])] = &[
         b"P X\n\xff: {\x80}\n\x80: {\xff}\n",
         b"P X\n\xff: {\xff}\n",
     ),
+    (
+        "an automaton",
+        AUTOMATON,
+        b"{f,n} x X^{a,b}\nq: (n, {a: q, b: r})\nr: (f, {a: q, b: q})\n",
+    ),
+    ("a chain that lumps to a point", CHAIN, b"D X\nq: {q: 1}\n"),
+    (
+        "weights that cancel",
+        b"Z^(X)\na: {b: 1, c: -1}\nb: {}\nc: {}\n",
+        b"Z^(X)\na: {}\n",
+    ),
+    (
+        "weights to states that differ",
+        DIFFER,
+        b"2 x Z^(X)\na: (0, {b: 1, c: -1})\nb: (1, {})\nc: (0, {})\nd: (0, {a: -1, c: 1})\n",
+    ),
+    (
+        "weights that cancel within classes",
+        CANCEL,
+        b"2 x Z^(X)\na: (0, {})\nb: (1, {})\n",
+    ),
+    (
+        "a set of distributions that become one",
+        b"P D X\nx: {{y: 1/2, z: 1/2}, {y: 1}}\ny: {}\nz: {}\n",
+        b"P D X\nx: {{y: 1}}\ny: {}\n",
+    ),
+    ("the identity", b"X\na: b\nb: a\n", b"X\na: a\n"),
+    (
+        "a weight at its bound",
+        b"Z^(X)\na: {a: 1099511627776}\n",
+        b"Z^(X)\na: {a: 1099511627776}\n",
+    ),
+    ("a machine for drinks", DRINKS, b"P ({coin,tea} x D X)\nidle: {(coin, {idle: 1/10, ready: 9/10})}\nready: {(tea, {idle: 1})}\nbroken: {}\n"),
+    (
+        "a sum",
+        b"1 + {u,v} x X\na: inj 0 0\nb: inj 1 (u, a)\nc: inj 1 (u, d)\nd: (inj 00 (0))\n",
+        b"1 + {u,v} x X\na: inj 0 0\nb: inj 1 (u, a)\n",
+    ),
+    (
+        "a bag by its other name",
+        b"N^(X)\nx: {y, y, z: 2}\ny: {}\nz: {z: 0}\n",
+        b"B X\nx: {y: 4}\ny: {}\n",
+    ),
+    (
+        "fractions in lowest terms",
+        b"Q^(X)\na: {a: 2/4, b: -0.5, c: 007/014}\nb: {a: 3}\nc: {c: 3}\n",
+        b"Q^(X)\na: {a: 1/2, b: -1/2, c: 1/2}\nb: {a: 3}\nc: {c: 3}\n",
+    ),
+    (
+        "sums in a product",
+        b"(X + 2) x (1 + X)\na: (inj 0 b, inj 0 0)\nb: (inj 1 1, inj 1 a)\n",
+        b"(X + 2) x (1 + X)\na: (inj 0 b, inj 0 0)\nb: (inj 1 1, inj 1 a)\n",
+    ),
+    (
+        "powers of powers",
+        b"(P X)^2^{l,r}\na: {r: {1: {a}, 0: {}}, l: {0: {b, a}, 1: {b}}}\n\
+        b: {l: {0: {a}, 1: {a}}, r: {0: {}, 1: {b}}}\n",
+        b"P X^2^{l,r}\na: {l: {0: {a}, 1: {a}}, r: {0: {}, 1: {a}}}\n",
+    ),
 ];
+
+/// A file of which the quotient's text is no file within the bounds.
+pub(crate) const MERGED: (&[u8], &[u8]) = (
+    b"Z^(X)\na: {b: 1099511627776, c: 1099511627776}\nb: {}\nc: {}\n",
+    b"Z^(X)\na: {b: 2199023255552}\nb: {}\n",
+);
 
 /// Words that are taken, and how the run on them ends. No file has the names `-` and `--stats`.
 pub(crate) const TAKEN: &[(&[&str], Status)] = &[

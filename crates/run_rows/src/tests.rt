@@ -3,7 +3,8 @@
 ghost use Rattle.std.specs.Prelude.{◌≡◌, ◌<◌};
 
 use crate::tables::{
-    COMPLAINTS, FOUR, LISTED, MINIMISED, MISFITS, NOT_BUILT, REFUSED, TAKEN, WITHOUT_FUNCTOR,
+    COMPLAINTS, FOUR, LISTED, MERGED, MINIMISED, MISFITS, PAST_BOUND, REFUSED, SHORT, TAKEN,
+    UNFORMED, WITHOUT_FUNCTOR,
 };
 use copar_run::{Status, WordList, run};
 use outside::{MemFolder, MemSink, Steps};
@@ -16,10 +17,10 @@ use typing::TypeKind;
 
 /// What a run did.
 #[derive(Drop)]
-struct Seen {
-    status: Status,
-    out: MemSink,
-    err: MemSink,
+pub(crate) struct Seen {
+    pub status: Status,
+    pub out: MemSink,
+    pub err: MemSink,
 }
 
 fn words_of(alloc: Global, words: &[&str]) -> Result<WordList, AllocError> {
@@ -48,7 +49,7 @@ fn counted<L: Ledger>(
 
 /// A run of the command on F over this folder. The sink for the output takes at most 4 bytes at a
 /// write.
-fn run_in(
+pub(crate) fn run_in(
     alloc: Global,
     command: &str,
     folder: MemFolder,
@@ -83,7 +84,7 @@ fn by_bytes(alloc: Global, file: &[u8]) -> Result<MemFolder, AllocError> {
 }
 
 /// A folder with this file `F`, of which at most 1,000 bytes are read at a time.
-fn by_thousands(alloc: Global, file: &[u8], failing: &[u64]) -> Result<MemFolder, AllocError> {
+pub(crate) fn by_thousands(alloc: Global, file: &[u8], failing: &[u64]) -> Result<MemFolder, AllocError> {
     let mut folder = MemFolder::new(alloc, 1000, failing)?;
     folder.add("F", file)?;
     Ok(folder)
@@ -133,8 +134,17 @@ fn each_fault_is_told_with_its_line(rt: HostRuntime) -> Result<(), Fail> {
             let status = Status::Grammar { line: *line };
             ends(&rt, rt.alloc(), command, about, file, status, b"")?;
         }
-        for (about, file) in NOT_BUILT {
-            ends(&rt, rt.alloc(), command, about, file, Status::NotBuilt, b"")?;
+        for (about, file, line) in UNFORMED {
+            let status = Status::Grammar { line: *line };
+            ends(&rt, rt.alloc(), command, about, file, status, b"")?;
+        }
+        for (about, file, line) in PAST_BOUND {
+            let status = Status::WeightBound { line: *line };
+            ends(&rt, rt.alloc(), command, about, file, status, b"")?;
+        }
+        for (about, file, line) in SHORT {
+            let status = Status::SumFault { line: *line };
+            ends(&rt, rt.alloc(), command, about, file, status, b"")?;
         }
         for (about, file, line, kind) in MISFITS {
             let status = Status::TypeFault {
@@ -147,55 +157,10 @@ fn each_fault_is_told_with_its_line(rt: HostRuntime) -> Result<(), Fail> {
     Ok(())
 }
 
-/// A number below k, by a linear congruence.
-fn below(seed: &mut u64, k: u8) -> u8
-    requires { 0 < k }
-    ensures { result < k }
-{
-    *seed = seed
-        .wrapping_mul(6364136223846793005)
-        .wrapping_add(1442695040888963407);
-    ((*seed >> 33) % u64::from(k)) as u8
-}
-
-/// A file of one to eight states with up to three members each.
-fn generated(alloc: Global, seed: &mut u64) -> Result<Vec<u8>, AllocError> {
-    let mut text = Vec::new(alloc);
-    text.extend_from_slice(b"P X\n")?;
-    let states = below(seed, 8) + 1;
-    for i in 0..states {
-        text.extend_from_slice(&[b's', b'0' + i])?;
-        text.extend_from_slice(b": {")?;
-        for j in 0..below(seed, 4) {
-            if 0 < j {
-                text.extend_from_slice(b", ")?;
-            }
-            text.extend_from_slice(&[b's', b'0' + below(seed, states)])?;
-        }
-        text.extend_from_slice(b"}\n")?;
-    }
-    Ok(text)
-}
-
 #[test]
-fn minimising_twice_prints_the_same_bytes(rt: HostRuntime) -> Result<(), Fail> {
-    let alloc = rt.alloc();
-    let mut seed = 0u64;
-    for number in 0..1000u32 {
-        let file = generated(alloc, &mut seed)?;
-        let once = run_in(
-            alloc,
-            "minimise",
-            by_thousands(alloc, &file, &[])?,
-            &[],
-            &[],
-        )?;
-        assert_eq!(rt; once.status, Status::Done, "file {number}");
-        let printed = by_thousands(alloc, once.out.bytes(), &[])?;
-        let twice = run_in(alloc, "minimise", printed, &[], &[])?;
-        assert_eq!(rt; twice.status, Status::Done, "file {number}");
-        assert_eq!(rt; twice.out.bytes(), once.out.bytes(), "file {number}");
-    }
+fn a_quotient_may_be_no_file_within_the_bounds(rt: HostRuntime) -> Result<(), Fail> {
+    let (file, out) = MERGED;
+    ends(&rt, rt.alloc(), "minimise", "merged", file, Status::Done, out)?;
     Ok(())
 }
 

@@ -1,4 +1,4 @@
-use Rattle.std.proofs.Common.{[], refl, sym, ap, ◌∙◌, rules, option_map}
+use Rattle.std.proofs.Common.{[], arith, refl, sym, ap, ◌∙◌, rules, option_map}
 use Rattle.command_line.specs.Asked.{denoted}
 use Rattle.command_line.specs.Requests.{Asks, AsksNothing}
 use Rattle.copar_run.specs.Outcome.{Ran}
@@ -9,14 +9,16 @@ pub returns-in-Ok-Some-clause-ends : goal.returns-in-Ok-Some-clause-ends
 returns-in-Ok-Some-clause-ends g c =
     let asks : Asks c.args.words.now (denoted c.in-Ok-Some.request) =
     sym c.in-Ok-Some.ensures.asked ∙ ap (option_map denoted) c.in-Ok-Some.field-0-is in
-    let (output, taken, none, ends) = c.work.ensures.ends in
-    (output, taken, none, Ran.Asked (denoted c.in-Ok-Some.request) asks ends)
+    let (rise, output, risen, taken, none, ends) = c.work.ensures.ends in
+    (rise, output, risen, taken, none, Ran.Asked (denoted c.in-Ok-Some.request) asks ends)
 
 pub returns-in-Ok-None-clause-ends : goal.returns-in-Ok-None-clause-ends
 returns-in-Ok-None-clause-ends g c =
     let nothing : AsksNothing c.args.words.now =
     sym c.in-Ok-None.ensures.asked ∙ ap (option_map denoted) c.in-Ok-None.field-0-is in (
+      0,
       [],
+      omega arith,
       sym (append_known_none (g.O.Sink.taken c.args.out.now)),
       (λ none other. refl),
       Ran.Refused nothing refl refl (λ name. refl) refl,
@@ -24,7 +26,9 @@ returns-in-Ok-None-clause-ends g c =
 
 pub returns-in-Err-clause-ends : goal.returns-in-Err-clause-ends
 returns-in-Err-clause-ends g c = (
+  0,
   [],
+  omega arith,
   sym (append_known_none (g.O.Sink.taken c.args.out.now)),
   (λ none other. refl),
   Ran.Unread refl refl (λ name. refl) refl,

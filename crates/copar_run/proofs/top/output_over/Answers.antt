@@ -2,7 +2,8 @@ use Rattle.std.proofs.Common.{◌≡◌, ◌≤◌, IfSome, length, sym, subst}
 use Rattle.std.proofs.lemmas.Result.{IfOk-weaker, IfErr-weaker}
 use Rattle.command_line.specs.Asked.{denoted}
 use Rattle.copar_run.specs.declared.status.Status.TheVariants.{ReadFault}
-use Rattle.copar_run.specs.Outcome.{Holds, Outside, met, most_bytes}
+use Rattle.structure_parser.specs.Reads.{most_bytes}
+use Rattle.copar_run.specs.Outcome.{Holds, Outside, met}
 use Rattle.copar_run.proofs.Making.{halt-reading, halt-judging, made}
 use Rattle.copar_run.proofs.top.output_over.Goals as goal
 
@@ -35,10 +36,10 @@ returns-in-Ok-clause-made g c =
     let o = met files (g.F.Folder.faults c.args.folder.now)
     (g.F.Folder.faults c.file_bytes.new.folder) in
     IfOk-weaker c.output_for.result _ _
-    (λ output prints. made (denoted c.args.request) c.file.result.now c.file.ensures o
+    (λ output (rise, risen, prints). (rise, risen, made (denoted c.args.request) c.file.result.now c.file.ensures o
     c.deref.result.now
     (subst (λ b. IfSome files (λ f. Holds f c.file.result.now b)) (sym c.deref.ensures.value)
     c.in-Ok.ensures.whole_file)
     (subst (λ b. length b ≤ most_bytes) (sym c.deref.ensures.value) c.in-Ok.ensures.within)
-    (c.in-Ok.ensures.counted (λ e. cc)) output.items prints)
+    (c.in-Ok.ensures.counted (λ e. cc)) rise output.items prints))
     c.output_for.ensures.output

@@ -1,5 +1,0 @@
-pub mod MemberLaws
-pub mod NameLaws
-pub mod ReadLaws
-pub mod RowLaws
-pub mod SetLaws

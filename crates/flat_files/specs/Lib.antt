@@ -1,3 +1,0 @@
-pub mod Functor
-pub mod Reading
-pub mod Rows
