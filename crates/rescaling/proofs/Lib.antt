@@ -1,2 +1,4 @@
 pub mod Numbers
 pub mod Levels
+pub mod ByNode
+pub mod Kept
