@@ -1,6 +1,11 @@
 -- The quotient by equivalence has no two equivalent states, is read back, and is its own quotient.
-use Rattle.std.proofs.Common.{◌≡◌, ℕ, List, length, IsTrue, ap, sym, subst, ◌∙◌, arith}
-use Rattle.std.specs.List.{list_all}
+use Rattle.std.proofs.Common.{◌≡◌, ℕ, ◌<◌, List, [], ◌∷◌, length, map, refl, ap, sym, subst, ◌∙◌, arith, length-map}
+use Rattle.std.specs.Prelude.{IsTrue}
+use Rattle.std.specs.List.{list_all, AllZip}
+use Rattle.std.proofs.lemmas.Bool.{and_parts, and_from}
+use Rattle.functor_terms.specs.Terms.{Nodes}
+use Rattle.fitting.specs.declared.fitted.Fitted.{Fitted}
+use Rattle.typing.specs.declared.value.Value.{Value}
 use Rattle.typing.specs.Contents.{Content}
 use Rattle.typing.specs.Values.{states_below}
 use Rattle.typing.specs.Fits.{fits}
@@ -14,7 +19,8 @@ use Rattle.structure_parser.specs.Reads.{Reads, IsNormalForm}
 use Rattle.structure_writer.specs.Text.{canonical}
 use Rattle.structure_writer.specs.Spelled.{Spells, IsWellFormed}
 use Rattle.structure_writer.specs.Laws.{TextsSpell, TextsAreReadBack, TextsAreOfFractions}
-use Rattle.rescaling.specs.Rescaled.{SameFractions}
+use Rattle.rescaling.specs.Rescaled.{SameFractions, rescaled}
+use Rattle.rescaling.specs.Laws.{RescalingKeepsStates, SameFractionsSameEquivalence}
 use Rattle.copar_run.specs.Minimal.{AreClasses, IsMinimised, IsMinimal}
 
 -- numbers for the first equivalent states number the classes of equivalence
@@ -87,7 +93,7 @@ pub record MinimalityLaws : Type 0 where
   pub spell : TextsSpell
   pub back : TextsAreReadBack
   pub fractions : TextsAreOfFractions
-  pub equivalence : SameEquivalence
+  pub equivalence : SameFractionsSameEquivalence
   pub states : RescalingKeepsStates
 
 module _ (c : Content) (output : List ℕ) (made : IsMinimised c output) (is : IsSource c)
@@ -118,7 +124,8 @@ module _ (c : Content) (output : List ℕ) (made : IsMinimised c output) (is : I
 
     -- no two states of what is read are equivalent
     apart : (k l : ℕ) → AreEquivalent e.term e.values k l → k ≡ l
-    apart k l h = no_two k l ((laws.equivalence made.least e same fit.0 k l).1 h)
+    apart k l h =
+        no_two k l ((laws.equivalence made.least e same formed.positive fit.0 k l).1 h)
 
     one_each : length e.values ≡ length e.names
     one_each =
@@ -150,7 +157,7 @@ module _ (c : Content) (output : List ℕ) (made : IsMinimised c output) (is : I
         least.text
         ∙ ap canonical (same_content least.least e least.quotient.same_term itself.0
         least.quotient.same_denominator itself.1)
-        ∙ laws.fractions made.least e same ∙ sym made.text
+        ∙ laws.fractions made.least e same formed.positive fit.0 ∙ sym made.text
 
   -- all of this
   pub is_minimal : IsMinimal c output

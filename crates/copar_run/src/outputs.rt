@@ -15,7 +15,7 @@ use quotient_writer::{
     blocks_text, class_numbers, minimal_systems_are_their_own_quotients, quotient, quotient_text,
     quotients_are_minimal,
 };
-use rescaling::{rescaling_keeps_states, same_fractions_same_equivalence};
+use rescaling::{rescaling_keeps_form, same_fractions_same_equivalence};
 use std::alloc::{AllocError, Global};
 use std::sync::ledger::Ledger;
 use structure_writer::{texts_are_of_fractions, texts_are_read_back, texts_spell};
@@ -92,8 +92,10 @@ fn minimised<L: Ledger>(
     texts_are_read_back();
     texts_are_of_fractions();
     same_fractions_same_equivalence();
-    rescaling_keeps_states();
+    rescaling_keeps_form();
     let labels = classes(alloc, c, steps)?;
     let d = quotient(alloc, c, labels.as_slice())?;
+    // a term and names are what they are
+    let (_nodes, _names) = (d.term.len(), d.names.len());
     quotient_text(alloc, &d)
 }

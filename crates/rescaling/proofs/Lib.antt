@@ -1,5 +1,8 @@
-pub mod Numbers
-pub mod Levels
 pub mod ByNode
 pub mod Kept
+pub mod Levels
+pub mod Numbers
+pub mod Relabelled
+pub mod SameFractions
 pub mod Scaled
+pub mod Sums

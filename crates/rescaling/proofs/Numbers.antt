@@ -18,6 +18,7 @@ pub record KeepsNumbers (f : ℤ → ℤ) : Type 0 where
   pub none : f (pos 0) ≡ pos 0
   pub sums : (a b : ℤ) → f (a +ℤ b) ≡ f a +ℤ f b
   pub equal : (a b : ℤ) → int_eq (f a) (f b) ≡ int_eq a b
+  pub below : (a b : ℤ) → int_lt (f a) (f b) ≡ int_lt a b
   pub order : (a b : ℤ) → int_cmp (f a) (f b) ≡ int_cmp a b
   pub tells : (a b : ℤ) → f a ≡ f b → a ≡ b
 
@@ -26,6 +27,7 @@ same-keeps = record {
   none = refl;
   sums = λ a b. refl;
   equal = λ a b. refl;
+  below = λ a b. refl;
   order = λ a b. refl;
   tells = λ a b e. e;
 }
@@ -92,6 +94,7 @@ times-keeps k some = record {
       (Decides-int_eq (a *ℤ pos k) (b *ℤ pos k))
       (λ h. ap (λ x. x *ℤ pos k) ((Decides-int_eq a b).0 h),
       λ h. (Decides-int_eq a b).1 (cancel_factor a b k some h));
+  below = λ a b. times-order a b k some;
   order = λ a b. λ i.
       cond (times-order a b k some i) Less (cond (times-order b a k some i) Greater Equal);
   tells = λ a b e. cancel_factor a b k some e;

@@ -14,43 +14,43 @@ use Rattle.copar_run.proofs.OnOk.{if_both}
 use Rattle.copar_run.proofs.outputs.classes.Goals as goal
 
 pub class_numbers-requires-clause-firsts : goal.class_numbers-requires-clause-firsts
-class_numbers-requires-clause-firsts c =
-    let is = c.in_ok-firsts in
+class_numbers-requires-clause-firsts g c =
+    let is = c.in_ok-found in
     subst AreFirsts (sym c.as_slice.ensures.value)
-    (are_firsts c.args.c.now.term c.args.c.now.values.items is.firsts.items is.ensures.stable
+    (are_firsts c.args.c.now.term c.args.c.now.values.items is.found.firsts.items is.ensures.stable
     is.ensures.coarsest is.ensures.first)
 
 pub returns-clause-classes : goal.returns-clause-classes
-returns-clause-classes c =
-    let is = c.in_ok-firsts in
+returns-clause-classes g c =
+    let is = c.in_ok-found in
     if_both c.class_numbers.result (λ labels. IsTrue (is_numbered labels.items))
     (λ labels. first_states labels.items ≡ c.as_slice.result.now)
     (λ labels. AreClasses (content_of c.args.c.now) labels.items)
-    (λ labels numbered same. are_classes (content_of c.args.c.now) is.firsts.items labels.items
+    (λ labels numbered same. are_classes (content_of c.args.c.now) is.found.firsts.items labels.items
     is.ensures.stable is.ensures.coarsest (same ∙ c.as_slice.ensures.value) numbered)
     c.class_numbers.ensures.numbered c.class_numbers.ensures.same_classes
 
 pub returns-clause-stable : goal.returns-clause-stable
-returns-clause-stable c =
-    let is = c.in_ok-firsts in
+returns-clause-stable g c =
+    let is = c.in_ok-found in
     let source = c.args.c.now in
     if_both c.class_numbers.result (λ labels. IsTrue (is_numbered labels.items))
     (λ labels. first_states labels.items ≡ c.as_slice.result.now)
     (λ labels. IsStable source.term source.values.items labels.items)
-    (λ labels numbered same. labels-stable source.term source.values.items is.firsts.items
+    (λ labels numbered same. labels-stable source.term source.values.items is.found.firsts.items
     is.ensures.stable is.ensures.coarsest labels.items (same ∙ c.as_slice.ensures.value)
     (subst (λ n. list_all (states_below n) source.values.items ≡ true) (sym source.one_each)
     source.in_range))
     c.class_numbers.ensures.numbered c.class_numbers.ensures.same_classes
 
 pub returns-clause-blocks : goal.returns-clause-blocks
-returns-clause-blocks c =
-    let is = c.in_ok-firsts in
+returns-clause-blocks g c =
+    let is = c.in_ok-found in
     if_both c.class_numbers.result (λ labels. IsTrue (is_numbered labels.items))
     (λ labels. first_states labels.items ≡ c.as_slice.result.now)
     (λ labels. AreBlocks (content_of c.args.c.now) (first_states labels.items))
     (λ labels numbered same. subst (AreBlocks (content_of c.args.c.now))
     (sym (same ∙ c.as_slice.ensures.value))
-    (are_blocks (content_of c.args.c.now) is.firsts.items is.ensures.stable
+    (are_blocks (content_of c.args.c.now) is.found.firsts.items is.ensures.stable
     is.ensures.coarsest is.ensures.first))
     c.class_numbers.ensures.numbered c.class_numbers.ensures.same_classes
