@@ -1,6 +1,7 @@
 -- The quotient by equivalence has no two equivalent states, is read back, and is its own quotient.
-use Rattle.std.proofs.Common.{◌≡◌, ℕ, ◌<◌, List, [], ◌∷◌, length, map, refl, ap, sym, subst, ◌∙◌, arith, length-map}
+use Rattle.std.proofs.Common.{◌≡◌, ℕ, ◌<◌, List, [], ◌∷◌, length, map, refl, ap, sym, subst, ◌∙◌, arith}
 use Rattle.std.specs.Prelude.{IsTrue}
+use Rattle.std.proofs.lemmas.List.{length-map}
 use Rattle.std.specs.List.{list_all, AllZip}
 use Rattle.std.proofs.lemmas.Bool.{and_parts, and_from}
 use Rattle.functor_terms.specs.Terms.{Nodes}
@@ -129,8 +130,9 @@ module _ (c : Content) (output : List ℕ) (made : IsMinimised c output) (is : I
 
     one_each : length e.values ≡ length e.names
     one_each =
-        sym (ap length same.same_values
-        ∙ length-map (rescaled same.factor made.least.term 0) e.values)
+        let image : length (map (rescaled same.factor made.least.term 0) e.values)
+        ≡ length e.values = rw length-map refl in
+        sym (ap length same.same_values ∙ image)
         ∙ made.quotient.quotient.one_each ∙ ap length (sym same.same_names)
 
     in_range : IsTrue (list_all (states_below (length e.values)) e.values)

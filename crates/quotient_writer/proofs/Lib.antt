@@ -5,3 +5,5 @@ pub mod Classes
 pub mod OwnQuotient
 pub mod NumberLaws
 pub mod ClassLaws
+mod BlockLists
+mod Firsts

@@ -1,5 +1,10 @@
 -- Laws of quotients, as statements. Each is the contract of a function that does nothing.
-use Rattle.std.specs.Prelude.{◌≡◌, ℕ, ◌<◌, List, length, slice_index, IsTrue}
+--
+-- NumberedByFirstStates        == what it is that classes are numbered by their first states
+-- PickedAreFirstStates         == what is picked stands at the first states of the classes
+-- NamesAreDetermined .. MinimalSystemsAreTheirOwnQuotients
+--                              == there is one quotient; it is minimal; a minimal system is its own
+use Rattle.std.specs.Prelude.{◌≡◌, ◌↔◌, ℕ, ◌<◌, List, length, slice_get, slice_index, IsTrue}
 use Rattle.std.specs.List.{list_all}
 use Rattle.functor_terms.specs.Terms.{Nodes}
 use Rattle.typing.specs.declared.value.Value.{Value}
@@ -7,7 +12,21 @@ use Rattle.typing.specs.Values.{states_below}
 use Rattle.typing.specs.Fits.{fits}
 use Rattle.typing.specs.Order.{is_normal}
 use Rattle.typing.specs.Stable.{AreEquivalent}
-use Rattle.quotient_writer.specs.Quotient.{is_numbered, IsQuotient}
+use Rattle.quotient_writer.specs.Quotient.{is_numbered, picked, IsQuotient}
+use Rattle.quotient_writer.specs.Blocks.{first_state}
+
+-- classes are numbered by their first states exactly if, at each state, each class of a smaller number
+-- has begun before
+abbrev pub NumberedByFirstStates : Type 0
+NumberedByFirstStates =
+    (b : List ℕ) → IsTrue (is_numbered b) ↔
+    ((i : ℕ) → i < length b → (k : ℕ) → k < slice_index b i → first_state b k < i)
+
+-- what is picked from a list stands, class by class, at the first state of the class
+abbrev pub PickedAreFirstStates : Type 0 → Type 0
+PickedAreFirstStates X =
+    (b : List ℕ) (xs : List X) → length b ≡ length xs → IsTrue (is_numbered b) → (k : ℕ) →
+    slice_get (picked b xs) k ≡ slice_get xs (first_state b k)
 
 -- one name and one label for each state, and the labels number classes by their first states
 pub record AreLabelled (names : List (List ℕ)) (values : List Value) (b : List ℕ) : Type 0 where

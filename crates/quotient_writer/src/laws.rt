@@ -1,5 +1,19 @@
 //! Laws of quotients, each the contract of a function that does nothing.
-ghost use Rattle.quotient_writer.specs.Laws.{NamesAreDetermined, ValuesAreDetermined, QuotientsAreMinimal, MinimalSystemsAreTheirOwnQuotients};
+ghost use Rattle.std.specs.Prelude.{ℕ, List};
+ghost use Rattle.typing.specs.declared.value.Value.{Value};
+ghost use Rattle.quotient_writer.specs.Laws.{NumberedByFirstStates, PickedAreFirstStates, NamesAreDetermined, ValuesAreDetermined, QuotientsAreMinimal, MinimalSystemsAreTheirOwnQuotients};
+
+/// Classes are numbered by their first states exactly if, at each state, each class of a smaller number
+/// has begun before.
+pub fn classes_are_numbered_by_first_states()
+    ensures { NumberedByFirstStates }
+{}
+
+/// What is picked stands, class by class, at the first state of the class.
+pub fn first_states_are_picked()
+    ensures names { PickedAreFirstStates (List ℕ) }
+    ensures values { PickedAreFirstStates Value }
+{}
 
 /// Two quotients by one list have the same names and values.
 pub fn quotients_are_determined()

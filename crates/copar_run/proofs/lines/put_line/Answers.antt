@@ -11,34 +11,51 @@ pub returns-in-Grammar-clause-front : goal.returns-in-Grammar-clause-front
 returns-in-Grammar-clause-front g c = front-told _ _ _ _ c.in-Grammar.is c.put_numbered.ensures.front
 
 pub returns-in-ReadFault-clause-whole : goal.returns-in-ReadFault-clause-whole
-returns-in-ReadFault-clause-whole g c = whole-told _ _ _ _ _ _ c.in-ReadFault.is c.put_text-in-ReadFault.ensures.whole
+returns-in-ReadFault-clause-whole g c =
+    whole-told _ _ _ _ _ _ c.in-ReadFault.is c.put_text-in-ReadFault.ensures.whole
 
 pub returns-in-ReadFault-clause-front : goal.returns-in-ReadFault-clause-front
-returns-in-ReadFault-clause-front g c = front-told _ _ _ _ c.in-ReadFault.is c.put_text-in-ReadFault.ensures.front
+returns-in-ReadFault-clause-front g c =
+    front-told _ _ _ _ c.in-ReadFault.is c.put_text-in-ReadFault.ensures.front
 
 pub returns-in-WriteFault-clause-whole : goal.returns-in-WriteFault-clause-whole
-returns-in-WriteFault-clause-whole g c = whole-told _ _ _ _ _ _ c.in-WriteFault.is c.put_text-in-WriteFault.ensures.whole
+returns-in-WriteFault-clause-whole g c =
+    whole-told _ _ _ _ _ _ c.in-WriteFault.is c.put_text-in-WriteFault.ensures.whole
 
 pub returns-in-WriteFault-clause-front : goal.returns-in-WriteFault-clause-front
-returns-in-WriteFault-clause-front g c = front-told _ _ _ _ c.in-WriteFault.is c.put_text-in-WriteFault.ensures.front
+returns-in-WriteFault-clause-front g c =
+    front-told _ _ _ _ c.in-WriteFault.is c.put_text-in-WriteFault.ensures.front
 
 pub returns-in-NoMemory-clause-whole : goal.returns-in-NoMemory-clause-whole
-returns-in-NoMemory-clause-whole g c = whole-told _ _ _ _ _ _ c.in-NoMemory.is c.put_text-in-NoMemory.ensures.whole
+returns-in-NoMemory-clause-whole g c =
+    whole-told _ _ _ _ _ _ c.in-NoMemory.is c.put_text-in-NoMemory.ensures.whole
 
 pub returns-in-NoMemory-clause-front : goal.returns-in-NoMemory-clause-front
-returns-in-NoMemory-clause-front g c = front-told _ _ _ _ c.in-NoMemory.is c.put_text-in-NoMemory.ensures.front
+returns-in-NoMemory-clause-front g c =
+    front-told _ _ _ _ c.in-NoMemory.is c.put_text-in-NoMemory.ensures.front
 
 pub returns-in-TooLong-clause-whole : goal.returns-in-TooLong-clause-whole
-returns-in-TooLong-clause-whole g c = whole-told _ _ _ _ _ _ c.in-TooLong.is c.put_text-in-TooLong.ensures.whole
+returns-in-TooLong-clause-whole g c =
+    whole-told _ _ _ _ _ _ c.in-TooLong.is c.put_text-in-TooLong.ensures.whole
 
 pub returns-in-TooLong-clause-front : goal.returns-in-TooLong-clause-front
 returns-in-TooLong-clause-front g c = front-told _ _ _ _ c.in-TooLong.is c.put_text-in-TooLong.ensures.front
 
-pub returns-in-NotBuilt-clause-whole : goal.returns-in-NotBuilt-clause-whole
-returns-in-NotBuilt-clause-whole g c = whole-told _ _ _ _ _ _ c.in-NotBuilt.is c.put_text-in-NotBuilt.ensures.whole
+pub returns-in-WeightBound-clause-whole : goal.returns-in-WeightBound-clause-whole
+returns-in-WeightBound-clause-whole g c =
+    whole-told _ _ _ _ _ _ c.in-WeightBound.is c.put_numbered-in-WeightBound.ensures.whole
 
-pub returns-in-NotBuilt-clause-front : goal.returns-in-NotBuilt-clause-front
-returns-in-NotBuilt-clause-front g c = front-told _ _ _ _ c.in-NotBuilt.is c.put_text-in-NotBuilt.ensures.front
+pub returns-in-WeightBound-clause-front : goal.returns-in-WeightBound-clause-front
+returns-in-WeightBound-clause-front g c =
+    front-told _ _ _ _ c.in-WeightBound.is c.put_numbered-in-WeightBound.ensures.front
+
+pub returns-in-SumFault-clause-whole : goal.returns-in-SumFault-clause-whole
+returns-in-SumFault-clause-whole g c =
+    whole-told _ _ _ _ _ _ c.in-SumFault.is c.put_numbered-in-SumFault.ensures.whole
+
+pub returns-in-SumFault-clause-front : goal.returns-in-SumFault-clause-front
+returns-in-SumFault-clause-front g c =
+    front-told _ _ _ _ c.in-SumFault.is c.put_numbered-in-SumFault.ensures.front
 
 pub returns-in-TypeFault-clause-whole : goal.returns-in-TypeFault-clause-whole
 returns-in-TypeFault-clause-whole g c = whole-told _ _ _ _ _ _ c.in-TypeFault.is

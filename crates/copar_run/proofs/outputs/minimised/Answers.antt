@@ -25,8 +25,8 @@ returns-clause-prints g c =
       states = c.rescaling_keeps_form.ensures.states;
     } in
     let formed : IsWellFormed (content_of d) = record {
-      term = c.len-_nodes.ensures.term;
-      names = c.len-_names.ensures.names;
+      term = c.len-nodes.ensures.term;
+      names = c.len-names.ensures.names;
       one_each = d.one_each;
       positive = d.positive;
       bounded = d.bounded;
@@ -61,4 +61,4 @@ returns-clause-prints g c =
       })
       formed laws),
     ))
-    c.quotient_text.ensures
+    c.quotient_text.ensures.canonical

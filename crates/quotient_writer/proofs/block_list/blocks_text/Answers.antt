@@ -1,7 +1,7 @@
 use Rattle.std.proofs.Common.{◌≡◌, ℕ, ◌<◌, List, length, refl, sym, ◌∙◌, arith}
 use Rattle.std.specs.Prelude.{slice_index}
 use Rattle.std.proofs.lemmas.Option.{slice_get_read, get_or_from_slice_get}
-use Rattle.quotient_writer.proofs.TextLaws.{lines-none, line-more}
+use Rattle.quotient_writer.proofs.BlockLists.{lines-none, line-more}
 use Rattle.quotient_writer.proofs.block_list.blocks_text.Goals as goal
 
 pub loop-i-init : goal.loop-i-init

@@ -1,4 +1,0 @@
-pub mod Rows
-pub mod Stages
-pub mod Reads
-pub mod Laws

@@ -1,3 +1,0 @@
-pub mod Steps
-pub mod Marks
-mod SameText
