@@ -24,19 +24,29 @@ write_at-suc : (w : Write) (ws : List Write) (k : ℕ) → write_at (w ∷ ws) (
 write_at-suc w ws k = ap (λ b. if b then w else write_at ws (suc k - 1)) (not_zero k)
     ∙ ap (write_at ws) (let e : suc k - 1 ≡ k = omega arith in e)
 
-module _ (g : ℕ → Write) where
+module _ {A : Type 0} (g : A → Write) where
   -- how those at the k-th of some nodes are written
-  pub write_found : (qs : List ℕ) (k q : ℕ) → slice_get qs k ≡ Some q
+  pub write_found : (qs : List A) (k : ℕ) (q : A) → slice_get qs k ≡ Some q
       → write_at (map g qs) k ≡ g q
   write_found [] k q e = absurd (none_some q e)
   write_found (r ∷ qs) zero q e = ap g (some_same r q e)
   write_found (r ∷ qs) (suc k) q e = write_at-suc (g r) (map g qs) k ∙ write_found qs k q e
 
-  pub write_none : (qs : List ℕ) (k : ℕ) → slice_get qs k ≡ None
+  pub write_none : (qs : List A) (k : ℕ) → slice_get qs k ≡ None
       → write_at (map g qs) k ≡ no_write
   write_none [] k e = refl
   write_none (r ∷ qs) zero e = absurd (none_some r (sym e))
   write_none (r ∷ qs) (suc k) e = write_at-suc (g r) (map g qs) k ∙ write_none qs k e
+
+-- the places behind the first
+pub parts-suc : (w : Write) (ws : List Write) (k : ℕ) (vs : List Value)
+    → part_texts (w ∷ ws) (suc k) vs ≡ part_texts ws k vs
+parts-suc w ws k [] = refl
+parts-suc w ws k (v ∷ vs) =
+    let next : part_texts (w ∷ ws) (suc k + 1) vs ≡ part_texts ws (k + 1) vs =
+    ap (λ j. part_texts (w ∷ ws) j vs) (let e : suc k + 1 ≡ suc (k + 1) = omega arith in e)
+    ∙ parts-suc w ws (k + 1) vs in
+    λ i. write_at-suc w ws k i v ∷ next i
 
 -- a value is written as the step at its node says
 pub text-step : (l : ℕ) (names : List (List ℕ)) (t : Nodes) → IsTerm t → (p : ℕ) → p < length t

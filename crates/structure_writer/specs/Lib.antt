@@ -1,1 +1,4 @@
+pub mod Laws
+pub mod Rescaled
+pub mod Spelled
 pub mod Text

@@ -9,9 +9,11 @@
 //! takes one greatest common divisor. No clause says so.
 #![tactic(auto)]
 
+mod laws;
 mod values;
 mod weight;
 mod words;
 mod writing;
 
+pub use laws::texts_spell;
 pub use writing::write_file;
