@@ -1,13 +1,12 @@
 -- The tokens of the pieces of a canonical text.
-use Rattle.std.proofs.Common.{◌≡◌, ℕ, zero, suc, ◌+◌, ◌<◌, ◌≤◌, Bool, true, false, ◌&&◌, List, [], ◌∷◌, ◌++◌, map, length, append-nil, append_assoc, refl, sym, ap, ◌∙◌, arith, inl, inr, Some, None}
+use Rattle.std.proofs.Common.{◌≡◌, ℕ, zero, suc, ◌+◌, ◌<◌, ◌≤◌, Bool, true, false, not, ◌&&◌, List, [], ◌∷◌, ◌++◌, map, length, append-nil, append_assoc, refl, sym, ap, ◌∙◌, arith, inl, inr, Some, None}
 use Rattle.std.specs.Prelude.{◌==◌, ◌⊎◌, codes, decimal, if◌then◌else◌, IsTrue}
 use Rattle.std.specs.List.{list_all, flat_map, AllZip}
 use Rattle.std.proofs.lemmas.Bool.{and_parts, and_from}
 use Rattle.std.proofs.lemmas.Bool.Decides.{nat_tests}
 use Rattle.std.proofs.lemmas.Slice.Eq.{bytes_eq-Decides}
 use Rattle.std.proofs.lemmas.List.Folds.{list_all-append}
-use Rattle.file_cut.specs.Bytes.{IsName, IsWord, is_blank, is_word_byte, inj_word, are_digits}
-use Rattle.file_cut.specs.Lines.{is_no_feed}
+use Rattle.file_cut.specs.Bytes.{IsName, IsWord, is_blank, is_word_byte, inj_word, are_digits, line_feed, carriage_return}
 use Rattle.file_cut.specs.Tokens.{Piece, piece, put, begins_with_word, tokens_from, is_inj, sign_of, mark_of, marks}
 use Rattle.file_cut.specs.Trees.{SpellsEach, SpellsEntry, SpellsOpen, SpellsWord, SpellsWithin, entry}
 use Rattle.file_cut.specs.Trees.SpellsEntry.{alone as alone_entry, paired as paired_entry}
@@ -96,22 +95,26 @@ name-marks (b ∷ w) rest is none =
     ∷ marks_from (0 + length (b ∷ w)) rest)
     ∙ ap (λ l. Word (b ∷ w) ∷ l) (moved (0 + length (b ∷ w)) rest)
 
--- ---- line feeds
+-- ---- line ends
 
-feed_ends : (b : ℕ) → is_word_byte b ≡ true → is_no_feed b ≡ true
-feed_ends b word = grind (arith, nat_tests)
+-- the byte is none of those that end a line
+abbrev pub is_plain : ℕ → Bool
+is_plain b = not (b == line_feed) && not (b == carriage_return)
 
-pub word-feeds : (w : List ℕ) → list_all is_word_byte w ≡ true → list_all is_no_feed w ≡ true
-word-feeds [] h = refl
-word-feeds (b ∷ w) h =
+word_plain : (b : ℕ) → is_word_byte b ≡ true → is_plain b ≡ true
+word_plain b word = grind (arith, nat_tests)
+
+pub word-plain : (w : List ℕ) → list_all is_word_byte w ≡ true → list_all is_plain w ≡ true
+word-plain [] h = refl
+word-plain (b ∷ w) h =
     let p = and_parts (is_word_byte b) (list_all is_word_byte w) h in
-    and_from (is_no_feed b) (list_all is_no_feed w) (feed_ends b p.0) (word-feeds w p.1)
+    and_from (is_plain b) (list_all is_plain w) (word_plain b p.0) (word-plain w p.1)
 
-pub both-feeds : (xs ys : List ℕ) → list_all is_no_feed xs ≡ true
-    → list_all is_no_feed ys ≡ true → list_all is_no_feed (xs ++ ys) ≡ true
-both-feeds xs ys hx hy =
-    list_all-append is_no_feed xs ys
-    ∙ and_from (list_all is_no_feed xs) (list_all is_no_feed ys) hx hy
+pub both-plain : (xs ys : List ℕ) → list_all is_plain xs ≡ true
+    → list_all is_plain ys ≡ true → list_all is_plain (xs ++ ys) ≡ true
+both-plain xs ys hx hy =
+    list_all-append is_plain xs ys
+    ∙ and_from (list_all is_plain xs) (list_all is_plain ys) hx hy
 
 -- ---- pieces
 
@@ -120,12 +123,12 @@ abbrev pub Lexes : List ℕ → List Mark → Type 0
 Lexes text tokens =
     (rest : List ℕ) → begins_with_word rest ≡ false → marks (text ++ rest) ≡ tokens ++ marks rest
 
--- the bytes spell this, and have no line feed
+-- the bytes spell this, and end no line
 pub record IsPieceOf {A : Type 0} (Inside : List Mark → A → Type 0) (text : List ℕ) (x : A) : Type 0 where
   pub tokens : List Mark
   pub lexes : Lexes text tokens
   pub spelled : Inside tokens x
-  pub no_feed : list_all is_no_feed text ≡ true
+  pub plain : list_all is_plain text ≡ true
 
 -- the bytes spell a tree with at most n brackets and `inj` open
 abbrev pub IsTextOf : ℕ → List ℕ → Tree → Type 0
@@ -180,13 +183,13 @@ word-text zero w is = record {
   tokens = Word w ∷ [];
   lexes = λ rest none. name-marks w rest is none;
   spelled = (w, refl, refl);
-  no_feed = word-feeds w is.0.1;
+  plain = word-plain w is.0.1;
 }
 word-text (suc n) w is = record {
   tokens = Word w ∷ [];
   lexes = λ rest none. name-marks w rest is none;
   spelled = inl (w, refl, refl);
-  no_feed = word-feeds w is.0.1;
+  plain = word-plain w is.0.1;
 }
 
 -- an entry with a colon, and one without
@@ -197,7 +200,7 @@ paired-piece Inside a b u w first second = record {
   tokens = first.tokens ++ Colon ∷ second.tokens;
   lexes = colon-lexes a b first.tokens second.tokens first.lexes second.lexes;
   spelled = paired_entry first.tokens second.tokens u w refl first.spelled second.spelled refl;
-  no_feed = both-feeds a (codes ": " ++ b) first.no_feed second.no_feed;
+  plain = both-plain a (codes ": " ++ b) first.plain second.plain;
 }
 
 pub alone-piece : (Inside : List Mark → Tree → Type 0) (a : List ℕ) (u : Tree)
@@ -206,7 +209,7 @@ alone-piece Inside a u is = record {
   tokens = is.tokens;
   lexes = is.lexes;
   spelled = alone_entry u is.spelled refl;
-  no_feed = is.no_feed;
+  plain = is.plain;
 }
 
 -- pieces with commas between them
@@ -219,7 +222,7 @@ listed-piece Inside text [] x [] is all = record {
   lexes = λ rest none.
       ap (λ l. marks (l ++ rest)) (append-nil text) ∙ is.lexes rest none;
   spelled = is.spelled;
-  no_feed = ap (list_all is_no_feed) (append-nil text) ∙ is.no_feed;
+  plain = ap (list_all is_plain) (append-nil text) ∙ is.plain;
 }
 listed-piece Inside text [] x (y ∷ ys) is all = absurd all
 listed-piece Inside text (t ∷ texts) x [] is all = absurd all
@@ -230,7 +233,7 @@ listed-piece Inside text (t ∷ texts) x (y ∷ ys) is all =
       lexes =
           comma-lexes text (listed (t ∷ texts)) is.tokens rest.tokens is.lexes rest.lexes;
       spelled = (is.tokens, rest.tokens, refl, is.spelled, rest.spelled);
-      no_feed = both-feeds text (codes ", " ++ listed (t ∷ texts)) is.no_feed rest.no_feed;
+      plain = both-plain text (codes ", " ++ listed (t ∷ texts)) is.plain rest.plain;
     }
 
 -- entries in braces
@@ -242,7 +245,7 @@ braces-text n [] [] all = record {
   tokens = OpenBrace ∷ CloseBrace ∷ [];
   lexes = λ rest none. ap (λ l. OpenBrace ∷ CloseBrace ∷ l) (moved 2 rest);
   spelled = inr (open_empty refl refl);
-  no_feed = refl;
+  plain = refl;
 }
 braces-text n [] (e ∷ es) all = absurd all
 braces-text n (t ∷ texts) [] all = absurd all
@@ -252,7 +255,7 @@ braces-text n (t ∷ texts) (e ∷ es) all =
       tokens = OpenBrace ∷ inside.tokens ++ CloseBrace ∷ [];
       lexes = braces-lexes (listed (t ∷ texts)) inside.tokens inside.lexes;
       spelled = inr (open_braces inside.tokens (e ∷ es) refl inside.spelled refl);
-      no_feed = both-feeds (listed (t ∷ texts)) (codes "}") inside.no_feed refl;
+      plain = both-plain (listed (t ∷ texts)) (codes "}") inside.plain refl;
     }
 
 -- parts in parentheses
@@ -269,7 +272,7 @@ tuple-text n (t ∷ texts) (u ∷ us) two all =
       tokens = Open ∷ inside.tokens ++ Close ∷ [];
       lexes = parens-lexes (listed (t ∷ texts)) inside.tokens inside.lexes;
       spelled = inr (open_tuple inside.tokens (u ∷ us) refl two inside.spelled refl);
-      no_feed = both-feeds (listed (t ∷ texts)) (codes ")") inside.no_feed refl;
+      plain = both-plain (listed (t ∷ texts)) (codes ")") inside.plain refl;
     }
 
 -- a part of a sum, of which the index is digits
@@ -281,5 +284,5 @@ inj-text n k text u name digits is = record {
   tokens = Inj ∷ Word k ∷ is.tokens;
   lexes = inj-lexes k text is.tokens name is.lexes;
   spelled = inr (open_inj k is.tokens u refl digits is.spelled refl);
-  no_feed = both-feeds k (codes " " ++ text) (word-feeds k name.0.1) is.no_feed;
+  plain = both-plain k (codes " " ++ text) (word-plain k name.0.1) is.plain;
 }
