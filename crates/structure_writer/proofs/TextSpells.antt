@@ -231,6 +231,7 @@ module _ (c : Content) (well : IsWellFormed c) where
             sym (heads_are 2 c.names (trees_of c.values all)
             (trees_count c.values all ∙ well.one_each));
         names = well.names;
+        positive = well.positive;
         denoted = each_denoted 2 c.names c.values all well.one_each;
         multiple = each_multiple c.values all;
         values = each_value c.values all well.fitting well.normal;

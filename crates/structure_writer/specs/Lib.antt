@@ -1,4 +1,3 @@
 pub mod Laws
-pub mod Rescaled
 pub mod Spelled
 pub mod Text

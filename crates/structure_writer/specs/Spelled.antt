@@ -95,14 +95,15 @@ abbrev pub DividesAll : ℕ → Fitted → Type 0
 DividesAll l f = AllByRecursion (λ q. q ∣ l) (denominators f)
 
 -- The lines are a functor line and rows with distinct heads. The coalgebra has the term that the
--- functor line spells, the heads as names in line order, a multiple of all denominators as its
--- denominator, and for each state the normal form over it of what its tree denotes.
+-- functor line spells, the heads as names in line order, a multiple of all denominators from 1 on as
+-- its denominator, and for each state the normal form over it of what its tree denotes.
 pub record Spells (text : List ℕ) (c : Content) : Type 0 where
   pub rows : List Row
   pub fitted : List Fitted
   pub spelled : AreRows text c.term rows
   pub same_names : c.names ≡ heads_of rows
   pub names : AreNames c.names
+  pub positive : 1 ≤ c.denominator
   pub denoted : AllZip (Denotes c.term c.names) rows fitted
   pub multiple : AllByRecursion (DividesAll c.denominator) fitted
   pub values : AllZip (IsNormalForm c.denominator c.term) fitted c.values

@@ -3,6 +3,7 @@ ghost use Rattle.std.specs.Prelude.{◌≡◌, ◌≤◌, ◌<◌, ◌++◌, len
 ghost use Rattle.functor_terms.specs.Terms.{IsTerm};
 ghost use Rattle.typing.specs.Contents.{content_of};
 ghost use Rattle.structure_writer.specs.Text.{text_at, state_line, canonical};
+ghost use Rattle.structure_writer.specs.Spelled.{Spells};
 
 use crate::values::push_value;
 use functor_terms::{Term, term_text};
@@ -13,6 +14,7 @@ use typing::{Coalgebra, Names, Value};
 /// structure, each on a line of its own. The error is want of memory.
 pub fn write_file(alloc: Global, c: &Coalgebra) -> Result<Vec<u8>, AllocError>
     ensures canonical { IfOk result (λ text. text.items ≡ canonical (content_of c.now)) }
+    ensures spells { IfOk result (λ text. Spells text.items (content_of c.now)) }
 {
     let mut text = term_text(alloc, &c.term)?;
     text.push(b'\n')?;
