@@ -1,8 +1,8 @@
 -- What is fitted within the bounds is fitted without them.
-use Rattle.std.proofs.Common.{◌≡◌, ℕ, zero, suc, ◌+◌, ◌-◌, Bool, true, false, not, ◌&&◌, List, [], ◌∷◌, length, map, Option, Some, None, Result, Ok, Err, refl, sym, ap, ◌∙◌, subst, arith, true≢false}
-use Rattle.std.specs.Prelude.{◌==◌, ◌||◌, if◌then◌else◌, nat_le, slice_get, slice_set, drop, option_and_then}
+use Rattle.std.proofs.Common.{◌≡◌, ℕ, zero, suc, ◌+◌, ◌-◌, Bool, true, false, not, ◌&&◌, List, [], ◌∷◌, length, map, Option, Some, None, Result, Ok, Err, refl, sym, ap, ◌∙◌, true≢false}
+use Rattle.std.specs.Prelude.{◌==◌, ◌||◌, if◌then◌else◌, nat_le, slice_set, drop, option_and_then}
 use Rattle.std.specs.Option.{option_map_or}
-use Rattle.std.specs.List.{list_all, list_any, AllByRecursion, AllZip}
+use Rattle.std.specs.List.{list_all, list_any, AllZip}
 use Rattle.file_cut.specs.declared.tree.Tree.{Tree}
 use Rattle.file_cut.specs.declared.tree.Entry.{Entry}
 use Rattle.functor_terms.specs.declared.node.Node.{Node}
@@ -10,7 +10,7 @@ use Rattle.functor_terms.specs.declared.node.Node.TheVariants.{State, Constant, 
 use Rattle.functor_terms.specs.declared.node.LabelSet.{LabelSet}
 use Rattle.functor_terms.specs.Terms.{Nodes, label_number, number_below}
 use Rattle.functor_terms.proofs.Folds.{fold-related}
-use Rattle.weights.specs.Numerals.{Form, is_form, is_within, is_below_zero, fraction_of, is_digits, number_of, form_of, has_sign, text_reading, form_reading, bounded_reading, reading_of}
+use Rattle.weights.specs.Numerals.{Form, is_form, is_within, is_below_zero, fraction_of, is_digits, number_of, form_of, has_sign, form_reading, reading_of}
 use Rattle.weights.specs.declared.numeral.Numeral.{Numeral}
 use Rattle.weights.specs.declared.fault.NumeralFault.{NumeralFault}
 use Rattle.weights.specs.declared.fault.NumeralFault.TheVariants as numeral_fault
@@ -21,7 +21,7 @@ use Rattle.fitting.specs.declared.fitted.Fitted.TheViews as shown
 use Rattle.fitting.specs.declared.fitted.Weight.{Weight}
 use Rattle.fitting.specs.declared.fitted.Weight.TheVariants as weight
 use Rattle.fitting.specs.Levels.{word, parts, branch, entries, held, key, weight_tree}
-use Rattle.fitting.specs.Fitting.{Found, Fit, needs, demands, found, made, each, no_fit, fit_at, places, number_limit, number_fit, product_fit, sum_fit, is_keyed, is_free, Slots, filled, all_held, empty_slots, power_of, power_fit, is_alone, set_of, set_fit, is_from_zero, has_fractions, weighed, weight_fit, has_weight, entry_fit, weights_of, weights_fit, fit_step, fitting}
+use Rattle.fitting.specs.Fitting.{Found, Fit, needs, demands, found, made, each, no_fit, fit_at, places, number_limit, number_fit, product_fit, sum_fit, is_keyed, is_free, Slots, filled, all_held, empty_slots, power_of, power_fit, is_alone, set_of, set_fit, is_from_zero, weighed, weight_fit, has_weight, entry_fit, weights_of, weights_fit, fit_step, fitting}
 use Rattle.fitting.specs.Scaling.{is_over, over_step, over_bound}
 use Rattle.fitting.proofs.Inversions.{ok_same, err_ok, needs-ok, demands-ok, found-ok, made-ok}
 use Rattle.structure_writer.specs.Spelled.{fraction_if, fraction_spelled, free_number, free_weight, free_entry, free_entries, free_weights, free_step, free_fitting}
@@ -50,7 +50,8 @@ module _ (negative : Bool) where
       never f e = cc
 
       by : (a b : Bool)
-          → ◌≡◌ {A = Result Numeral NumeralFault} (if a then (if b then Ok (fraction_of negative form)
+          → ◌≡◌ {A = Result Numeral NumeralFault}
+          (if a then (if b then Ok (fraction_of negative form)
           else Err (numeral_fault.OverBound (is_below_zero negative form)))
           else Err numeral_fault.NotANumber) (Ok n)
           → (if a then Some (fraction_of negative form) else None) ≡ Some n

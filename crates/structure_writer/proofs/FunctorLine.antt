@@ -1,5 +1,5 @@
 -- The first line of a canonical text: it ends no line before its end, and is not skipped.
-use Rattle.std.proofs.Common.{◌≡◌, ℕ, zero, suc, ◌+◌, ◌^◌, ◌<◌, ◌≤◌, Bool, true, false, not, ◌&&◌, List, [], ◌∷◌, ◌++◌, length, map, refl, sym, ap, ◌∙◌, subst, arith}
+use Rattle.std.proofs.Common.{◌≡◌, ℕ, zero, suc, ◌<◌, ◌≤◌, Bool, true, false, List, [], ◌∷◌, ◌++◌, length, map, refl, sym, ap, ◌∙◌, subst, arith}
 use Rattle.std.specs.Prelude.{◌==◌, codes, decimal, nat_le, if◌then◌else◌, IsTrue}
 use Rattle.std.specs.Char.{is_ascii_digit}
 use Rattle.std.specs.List.{list_all, AllByRecursion, flat_map, join_by}
@@ -12,7 +12,7 @@ use Rattle.functor_terms.specs.declared.node.LabelSet.TheVariants.{Listed, Below
 use Rattle.functor_terms.specs.declared.node.Node.{Node}
 use Rattle.functor_terms.specs.declared.node.Node.TheVariants.{State, Constant, Naturals, Product, Sum, Power, Powerset, Bag, Distribution, Integers, Rationals}
 use Rattle.functor_terms.specs.Terms.{Nodes, Part, IsPart, IsTerm, HasLabels, AreLabels, takes, over, placed}
-use Rattle.functor_terms.specs.Text.{Shown, shown, prefix_level, power_level, product_level, level_of, enclosed, within, label_text, only, node_text, shown_over, shown_at, text_of_term}
+use Rattle.functor_terms.specs.Text.{Shown, shown, prefix_level, power_level, product_level, enclosed, within, label_text, only, node_text, shown_over, shown_at, text_of_term}
 use Rattle.functor_terms.proofs.TermLaws.{IsBlock, part-block}
 use Rattle.functor_terms.proofs.PartFolds.{fold-over}
 use Rattle.structure_writer.proofs.Marks.{is_plain, word-plain, both-plain}

@@ -1,14 +1,14 @@
 -- The tokens of the pieces of a canonical text.
-use Rattle.std.proofs.Common.{◌≡◌, ℕ, zero, suc, ◌+◌, ◌<◌, ◌≤◌, Bool, true, false, not, ◌&&◌, List, [], ◌∷◌, ◌++◌, map, length, append-nil, append_assoc, refl, sym, ap, ◌∙◌, arith, inl, inr, Some, None}
-use Rattle.std.specs.Prelude.{◌==◌, ◌⊎◌, codes, decimal, if◌then◌else◌, IsTrue}
-use Rattle.std.specs.List.{list_all, flat_map, AllZip}
+use Rattle.std.proofs.Common.{◌≡◌, ℕ, zero, suc, ◌+◌, ◌≤◌, Bool, true, false, not, ◌&&◌, List, [], ◌∷◌, ◌++◌, map, length, append-nil, append_assoc, refl, sym, ap, ◌∙◌, arith, inl, inr, Some, None}
+use Rattle.std.specs.Prelude.{◌==◌, codes, if◌then◌else◌, IsTrue}
+use Rattle.std.specs.List.{list_all, AllZip}
 use Rattle.std.proofs.lemmas.Bool.{and_parts, and_from}
 use Rattle.std.proofs.lemmas.Bool.Decides.{nat_tests}
 use Rattle.std.proofs.lemmas.Slice.Eq.{bytes_eq-Decides}
 use Rattle.std.proofs.lemmas.List.Folds.{list_all-append}
-use Rattle.file_cut.specs.Bytes.{IsName, IsWord, is_blank, is_word_byte, inj_word, are_digits, line_feed, carriage_return}
+use Rattle.file_cut.specs.Bytes.{IsName, is_blank, is_word_byte, inj_word, are_digits, line_feed, carriage_return}
 use Rattle.file_cut.specs.Tokens.{Piece, piece, put, begins_with_word, tokens_from, is_inj, sign_of, mark_of, marks}
-use Rattle.file_cut.specs.Trees.{SpellsEach, SpellsEntry, SpellsOpen, SpellsWord, SpellsWithin, entry}
+use Rattle.file_cut.specs.Trees.{SpellsEach, SpellsEntry, SpellsWithin, entry}
 use Rattle.file_cut.specs.Trees.SpellsEntry.{alone as alone_entry, paired as paired_entry}
 use Rattle.file_cut.specs.Trees.SpellsOpen.{tuple as open_tuple, inj as open_inj, empty as open_empty, braces as open_braces}
 use Rattle.file_cut.specs.declared.mark.Mark.{Mark}
@@ -17,7 +17,7 @@ use Rattle.file_cut.specs.declared.tree.Tree.{Tree}
 use Rattle.file_cut.specs.declared.tree.Tree.TheVariants as tree
 use Rattle.file_cut.specs.declared.tree.Entry.{Entry}
 use Rattle.file_cut.proofs.TokenLaws.{blank_ends}
-use Rattle.structure_writer.specs.Text.{listed, paired, in_braces, in_parentheses, part_text}
+use Rattle.structure_writer.specs.Text.{listed, paired, in_braces, in_parentheses}
 
 -- ---- tokens, wherever the bytes stand
 
@@ -124,7 +124,8 @@ Lexes text tokens =
     (rest : List ℕ) → begins_with_word rest ≡ false → marks (text ++ rest) ≡ tokens ++ marks rest
 
 -- the bytes spell this, and end no line
-pub record IsPieceOf {A : Type 0} (Inside : List Mark → A → Type 0) (text : List ℕ) (x : A) : Type 0 where
+pub record IsPieceOf {A : Type 0} (Inside : List Mark → A → Type 0) (text : List ℕ) (x : A) :
+    Type 0 where
   pub tokens : List Mark
   pub lexes : Lexes text tokens
   pub spelled : Inside tokens x

@@ -1,6 +1,6 @@
 -- What the texts of numbers and of weights spell.
-use Rattle.std.proofs.Common.{rules, ◌≡◌, ℕ, zero, suc, ◌*◌, ◌/◌, ◌^◌, ◌<◌, ◌≤◌, Bool, true, false, not, ◌&&◌, ◌||◌, List, [], ◌∷◌, ◌++◌, length, Some, Option, Ok, Err, None, append-nil, refl, sym, ap, ◌∙◌, subst, arith, true≢false}
-use Rattle.std.specs.Prelude.{◌==◌, codes, decimal, nat_lt, nat_le, drop, if◌then◌else◌, ℤ, pos, negsuc, int_lt, unsigned_abs, option_and_then, ◌*ℤ◌}
+use Rattle.std.proofs.Common.{rules, ◌≡◌, ℕ, ◌/◌, ◌^◌, ◌<◌, ◌≤◌, Bool, true, false, not, ◌&&◌, ◌||◌, List, [], ◌∷◌, ◌++◌, length, Some, Ok, None, append-nil, refl, sym, ap, ◌∙◌, subst, arith, true≢false}
+use Rattle.std.specs.Prelude.{◌==◌, decimal, nat_lt, if◌then◌else◌, ℤ, pos, negsuc, int_lt, unsigned_abs, option_and_then, ◌*ℤ◌}
 use Rattle.std.specs.Int.{◌∣◌}
 use Rattle.std.specs.Char.{is_ascii_digit}
 use Rattle.std.specs.List.{list_all}
@@ -11,12 +11,12 @@ use Rattle.std.proofs.lemmas.Fmt.{decimal_is_IsNumeral_wide}
 use Rattle.std.proofs.lemmas.Str.Parse.{IsNumeralModel, numerals_by_fold}
 use Rattle.std.proofs.lemmas.List.Folds.{list_all-append}
 use Rattle.std.proofs.Math.Nat.{div-mul_cancel, dvd-mul_right, one-dvd}
-use Rattle.file_cut.specs.Bytes.{IsName, IsWord, is_word_byte, inj_word, are_digits}
+use Rattle.file_cut.specs.Bytes.{IsName, is_word_byte, inj_word}
 use Rattle.functor_terms.specs.Terms.{is_number_below, number_below}
 use Rattle.functor_terms.specs.declared.node.Node.{Node}
 use Rattle.weights.specs.Fractions.{gcd_of, lowest_terms, IsLowest}
 use Rattle.weights.specs.FractionLaws.{ratio, gcd_of-IsGcd, lowest_terms-IsLowest, lowest_terms-smaller, lowest_terms_is, lowest_terms-whole, cancel_factor}
-use Rattle.weights.specs.FractionText.{text_of_fraction, SpellsFraction}
+use Rattle.weights.specs.FractionText.{SpellsFraction}
 use Rattle.weights.specs.FractionTextLaws.{text_of_fraction-spells}
 use Rattle.weights.specs.NumeralLaws.{cut_from_Spells}
 use Rattle.weights.specs.Numerals.{Form, Whole, Over, Decimal, minus, point, slash, text_of_form, is_form, is_digits, number_after, number_of, signed_text, signed, numerator_of, denominator_of, numeral, fraction_of, has_sign, form_of}
@@ -26,7 +26,7 @@ use Rattle.weights.specs.declared.ratio.Ratio.{Ratio}
 use Rattle.typing.specs.declared.kind.TypeKind.TheVariants.{NotANumber, Negative}
 use Rattle.fitting.specs.declared.fitted.Weight.TheVariants as weight
 use Rattle.fitting.specs.declared.fitted.Weight.{Weight}
-use Rattle.fitting.specs.Fitting.{Found, demands, is_from_zero, has_fractions, weighed}
+use Rattle.fitting.specs.Fitting.{demands, is_from_zero, has_fractions, weighed}
 use Rattle.fitting.specs.Scaling.{scaled_weight}
 use Rattle.fitting.proofs.ScaledFractions.{weights-keep}
 use Rattle.structure_writer.specs.Text.{denominator_at, ratio_text, weight_text}
@@ -192,7 +192,8 @@ tested m n first second =
     (demands (has_fractions m || (n.q == 1)) NotANumber (Ok (weight.Fraction n))))
     ∙ (λ i. demands {B = Weight} (second i) NotANumber (Ok (weight.Fraction n)))
 
--- The text of a weight spells the fraction that it is, which passes the tests at its node, and which
+-- The text of a weight spells the fraction that it is, which passes the tests at its node, and
+-- which
 -- is the weight again over the common denominator.
 pub record IsWeightText (l : ℕ) (m : Node) (w : ℤ) : Type 0 where
   pub fraction : Numeral
@@ -203,7 +204,9 @@ pub record IsWeightText (l : ℕ) (m : Node) (w : ℤ) : Type 0 where
   pub back : scaled_weight l m (weight.Fraction fraction) ≡ w
 
 -- l is the denominator
-module _ (l : ℕ) (some : 1 ≤ l) (small : l ≤ 2 ^ 40) (m : Node) (w : ℤ) (few : unsigned_abs w ≤ 2 ^ 106) (natural : is_from_zero m ≡ true → int_lt (pos 0) w ≡ true) where
+module _ (l : ℕ) (some : 1 ≤ l) (small : l ≤ 2 ^ 40) (m : Node) (w : ℤ)
+    (few : unsigned_abs w ≤ 2 ^ 106)
+    (natural : is_from_zero m ≡ true → int_lt (pos 0) w ≡ true) where
   abbrev d : ℕ
   d = denominator_at l m
 

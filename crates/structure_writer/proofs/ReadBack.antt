@@ -1,5 +1,5 @@
 -- A text that spells a coalgebra, and is accepted as a file, denotes the same fractions.
-use Rattle.std.proofs.Common.{◌≡◌, ℕ, zero, suc, ◌+◌, ◌*◌, ◌/◌, ◌<◌, ◌≤◌, Bool, true, false, ◌&&◌, ◌||◌, List, [], ◌∷◌, ◌++◌, length, map, append_assoc, append-nil, Option, Some, None, Result, Ok, Err, refl, sym, ap, ◌∙◌, subst, arith, true≢false}
+use Rattle.std.proofs.Common.{◌≡◌, ℕ, zero, suc, ◌*◌, ◌/◌, ◌≤◌, Bool, true, false, ◌||◌, List, [], ◌∷◌, ◌++◌, map, append_assoc, append-nil, Option, Some, None, Result, Ok, Err, refl, sym, ap, ◌∙◌, subst, arith}
 use Rattle.std.specs.Prelude.{if◌then◌else◌, is_some, nat_le, IsTrue}
 use Rattle.std.specs.Int.{◌∣◌}
 use Rattle.std.specs.Option.{option_map_or}
@@ -9,13 +9,13 @@ use Rattle.std.proofs.lemmas.Cmp.{nat_eq_equiv}
 use Rattle.std.proofs.Math.Nat.{div-mul_cancel, one-dvd, zero-mul}
 use Rattle.std.proofs.lemmas.Bool.{leb-true}
 use Rattle.std.proofs.lemmas.Nat.Gcd.{dvd_refl, dvd_trans}
-use Rattle.file_cut.specs.Lines.{Numbered, lines_of}
+use Rattle.file_cut.specs.Lines.{Numbered}
 use Rattle.file_cut.specs.Tokens.{marks}
 use Rattle.file_cut.specs.Trees.{open_limit}
 use Rattle.file_cut.proofs.TreeLaws.{one_line}
 use Rattle.functor_terms.specs.Grammar.{SpellsTerm}
 use Rattle.functor_terms.specs.Terms.{Nodes}
-use Rattle.functor_terms.specs.Words.{is_same_word, place_of, AreNames}
+use Rattle.functor_terms.specs.Words.{is_same_word, place_of}
 use Rattle.functor_terms.proofs.ReadingLaws.{one_term}
 use Rattle.functor_terms.proofs.WordLemmas.{place-any}
 use Rattle.typing.specs.Contents.{Content}
@@ -25,17 +25,17 @@ use Rattle.typing.specs.declared.value.Value.{Value}
 use Rattle.typing.specs.Equality.{are_equal}
 use Rattle.fitting.specs.declared.fitted.Fitted.{Fitted}
 use Rattle.fitting.specs.Fitting.{Found, fitting}
-use Rattle.fitting.specs.Scaling.{over_bound, denominators, denominator_limit, common_multiple, IsMultiple, IsLeastMultiple, scaled}
+use Rattle.fitting.specs.Scaling.{over_bound, denominators, denominator_limit, common_multiple, scaled}
 use Rattle.fitting.proofs.FitSound.{fitting-sound}
 use Rattle.fitting.proofs.FitNumerals.{fitting-numerals}
 use Rattle.fitting.proofs.JoinLaws.{ArePositive, common_multiple-least, denominators-positive, joined-range}
 use Rattle.structure_parser.specs.Rows.{Row, row, IsRowOf, AreRows}
-use Rattle.structure_parser.specs.Stages.{heads_of, with_head, names_with, names_of, Typed, typed_first, typed, within_limit, joined_with, bounded, summed, Outcome, after_bounds, after_types, reads_rows}
+use Rattle.structure_parser.specs.Stages.{heads_of, with_head, names_with, names_of, Typed, typed_first, typed, bounded, summed, Outcome, after_bounds, after_types, reads_rows}
 use Rattle.structure_parser.specs.Reads.{IsNormalForm, Reads}
 use Rattle.rescaling.specs.Rescaled.{rescaled, SameFractions}
 use Rattle.rescaling.proofs.SameFractions.{normal-forms}
 use Rattle.rescaling.proofs.Scaled.{scaled-rescaled}
-use Rattle.structure_writer.specs.Spelled.{free_fitting, Denotes, DividesAll, Spells}
+use Rattle.structure_writer.specs.Spelled.{Denotes, DividesAll, Spells}
 use Rattle.structure_writer.proofs.Free.{fitting-free}
 
 -- ---- one reading of rows

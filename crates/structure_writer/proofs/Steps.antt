@@ -2,14 +2,14 @@
 use Rattle.std.proofs.Common.{◌≡◌, ℕ, zero, suc, ◌+◌, ◌-◌, ◌<◌, ◌≤◌, false, List, [], ◌∷◌, ◌++◌, length, map, take, Some, None, slice_get, refl, sym, ap, ◌∙◌, arith, append_assoc, append-nil, ◌⊎◌, inl, inr}
 use Rattle.std.specs.Prelude.{◌==◌, if◌then◌else◌, codes}
 use Rattle.std.proofs.lemmas.Bool.Decides.{nat_tests}
-use Rattle.std.proofs.lemmas.List.{take_all, length-map}
+use Rattle.std.proofs.lemmas.List.{take_all}
 use Rattle.functor_terms.specs.declared.node.Node.{Node}
 use Rattle.functor_terms.specs.declared.node.Node.TheVariants.{Bag, Distribution, Integers, Rationals}
 use Rattle.functor_terms.specs.declared.node.LabelSet.{LabelSet}
-use Rattle.functor_terms.specs.Terms.{Nodes, IsTerm, node_at, children_at}
+use Rattle.functor_terms.specs.Terms.{Nodes, IsTerm, node_at}
 use Rattle.functor_terms.proofs.Folds.{fold-at}
 use Rattle.typing.specs.declared.value.Value.{Value}
-use Rattle.structure_writer.specs.Text.{Write, no_write, write_at, word_at, label_word, listed, paired, in_braces, in_parentheses, part_texts, keyed_texts, weights_text, write_step, text_at, child_texts, state_line, state_lines}
+use Rattle.structure_writer.specs.Text.{Write, no_write, write_at, label_word, listed, paired, part_texts, keyed_texts, weights_text, write_step, text_at, child_texts, state_line, state_lines}
 
 none_some : {X : Type 0} (x : X) → None ≡ Some x → ⊥
 none_some x e = cc

@@ -1,20 +1,18 @@
 -- The canonical text of a coalgebra spells it.
-use Rattle.std.proofs.Common.{◌≡◌, ℕ, zero, suc, ◌+◌, ◌^◌, ◌<◌, ◌≤◌, Bool, true, false, not, ◌&&◌, List, [], ◌∷◌, ◌++◌, length, map, append_assoc, append-nil, refl, sym, ap, ◌∙◌, subst, arith, true≢false}
-use Rattle.std.specs.Prelude.{◌==◌, codes, if◌then◌else◌, IsTrue, Ok}
+use Rattle.std.proofs.Common.{◌≡◌, ℕ, suc, ◌+◌, ◌^◌, Bool, true, false, not, List, [], ◌∷◌, ◌++◌, length, append_assoc, append-nil, refl, sym, ap, ◌∙◌, subst, arith, true≢false}
+use Rattle.std.specs.Prelude.{◌==◌, codes, if◌then◌else◌}
 use Rattle.std.specs.List.{list_all, AllByRecursion, AllZip}
-use Rattle.std.proofs.lemmas.Bool.{and_parts, and_from}
+use Rattle.std.proofs.lemmas.Bool.{and_parts}
 use Rattle.std.proofs.lemmas.Bool.Decides.{nat_tests}
 use Rattle.std.proofs.lemmas.List.{length-append}
-use Rattle.file_cut.specs.Bytes.{IsName, is_blank, is_word_byte, number_sign, line_feed, carriage_return}
+use Rattle.file_cut.specs.Bytes.{IsName, is_word_byte, number_sign, line_feed, carriage_return}
 use Rattle.file_cut.specs.Lines.{Numbered, begun, raw_lines, is_skipped, without_return, numbered_line, lines_from, lines_of}
 use Rattle.file_cut.specs.Tokens.{marks}
 use Rattle.file_cut.specs.Trees.{SpellsLine}
-use Rattle.file_cut.specs.declared.mark.Mark.{Mark}
 use Rattle.file_cut.specs.declared.mark.Mark.TheVariants.{Word, Colon}
 use Rattle.file_cut.specs.declared.tree.Tree.{Tree}
 use Rattle.file_cut.proofs.LineLaws.{lines-take}
 use Rattle.file_cut.proofs.TokenLaws.{blank_ends}
-use Rattle.functor_terms.specs.Terms.{Nodes}
 use Rattle.functor_terms.specs.Text.{text_of_term}
 use Rattle.functor_terms.proofs.TextLaws.{texts_spell}
 use Rattle.typing.specs.Contents.{Content}
@@ -27,13 +25,13 @@ use Rattle.typing.specs.Bounds.{weights_hold, is_within}
 use Rattle.typing.proofs.EqualityLaws.{eq-equivalence}
 use Rattle.fitting.specs.declared.fitted.Fitted.{Fitted}
 use Rattle.fitting.specs.Scaling.{scaled}
-use Rattle.structure_parser.specs.Rows.{Row, row, IsRowOf, AreRows}
+use Rattle.structure_parser.specs.Rows.{Row, row, IsRowOf}
 use Rattle.structure_parser.specs.Stages.{heads_of}
 use Rattle.structure_parser.specs.Reads.{IsNormalForm}
 use Rattle.structure_writer.specs.Text.{Write, paired, text_at, state_line, state_lines, canonical}
 use Rattle.structure_writer.specs.Spelled.{free_fitting, Denotes, DividesAll, Spells, IsWellFormed}
 use Rattle.structure_writer.proofs.Marks.{Lexes, colon-lexes, name-marks, is_plain, word-plain, both-plain}
-use Rattle.structure_writer.proofs.FunctorLine.{IsClean, clean-unskipped, term-clean}
+use Rattle.structure_writer.proofs.FunctorLine.{clean-unskipped, term-clean}
 use Rattle.structure_writer.proofs.Written.{IsWritten}
 use Rattle.structure_writer.proofs.WrittenTerms.{term-written}
 
@@ -144,7 +142,8 @@ module _ (c : Content) (well : IsWellFormed c) where
       let word : Lexes name (Word name ∷ []) = λ rest none. name-marks name rest named none in
       let whole = colon-lexes name h.text (Word name ∷ []) h.piece.tokens word h.piece.lexes in (
         h.piece.tokens,
-        ap (λ text. marks (paired name text)) h.is ∙ ap marks (sym (append-nil (paired name h.text)))
+        ap (λ text. marks (paired name text)) h.is
+            ∙ ap marks (sym (append-nil (paired name h.text)))
             ∙ whole [] refl ∙ ap (λ ts. Word name ∷ Colon ∷ ts) (append-nil h.piece.tokens),
         h.piece.spelled,
       )
@@ -170,8 +169,7 @@ module _ (c : Content) (well : IsWellFormed c) where
       ap (lines_from n) (append_assoc line (codes "\n") rest)
       ∙ first_line n line rest (line_plain name v named.0 all.0)
       (name_unskipped name (codes ": " ++ w v) named.0) in
-      subst (λ (ls : List Numbered). AllZip IsRowOf ls (row n name all.0.tree ∷ rows)) (sym cut)
-      (
+      subst (λ (ls : List Numbered). AllZip IsRowOf ls (row n name all.0.tree ∷ rows)) (sym cut) (
         record { number = refl; spelled = line_spelled name v named.0 all.0 },
         each_row (n + 1) names vs named.1 all.1 (omega (arith, l)),
       )

@@ -1,50 +1,41 @@
 -- What the text of a value spells at each kind of node: a tree that denotes the value.
-use Rattle.std.proofs.Common.{◌≡◌, ℕ, zero, suc, ◌+◌, ◌-◌, ◌^◌, ◌<◌, ◌≤◌, Bool, true, false, not, ◌&&◌, List, [], ◌∷◌, ◌++◌, length, map, Option, Some, None, slice_get, refl, sym, ap, ◌∙◌, subst, arith, true≢false, append_assoc, append-nil}
-use Rattle.std.specs.Prelude.{◌==◌, if◌then◌else◌, nat_lt, nat_le, Ok, Err, ℤ, pos, int_lt, unsigned_abs, decimal, codes, is_some, is_none, replicate, slice_set, IsTrue}
+use Rattle.std.proofs.Common.{◌≡◌, ℕ, ◌^◌, ◌<◌, true, List, [], ◌∷◌, ◌++◌, length, map, Some, None, refl, sym, ap, ◌∙◌, subst, arith, true≢false}
+use Rattle.std.specs.Prelude.{◌==◌, nat_lt, nat_le, Ok, decimal}
 use Rattle.std.specs.Option.{option_map_or}
 use Rattle.std.specs.Int.{◌∣◌}
-use Rattle.std.specs.List.{list_all, AllByRecursion, AllZip, flat_map, sum_by}
-use Rattle.std.specs.Ordering.{int_eq}
-use Rattle.std.proofs.lemmas.Bool.{and_parts, and_from, eqb-true, ltb-true, leb-true}
-use Rattle.std.proofs.lemmas.Bool.Decides.{nat_tests}
-use Rattle.file_cut.specs.Bytes.{IsName}
-use Rattle.file_cut.specs.Trees.{SpellsEntry, SpellsWithin, entry}
-use Rattle.file_cut.specs.declared.tree.Tree.{Tree, out-Tree}
+use Rattle.std.specs.List.{list_all, AllByRecursion, flat_map}
+use Rattle.std.proofs.lemmas.Bool.{and_parts, eqb-true, ltb-true, leb-true}
+use Rattle.file_cut.specs.Trees.{entry}
+use Rattle.file_cut.specs.declared.tree.Tree.{Tree}
 use Rattle.file_cut.specs.declared.tree.Tree.TheVariants as tree
 use Rattle.file_cut.specs.declared.tree.Tree.TheViews as trees
-use Rattle.file_cut.specs.declared.tree.Entry.{Entry, out-Entry, out-roll-Entry}
-use Rattle.functor_terms.specs.declared.node.Node.{Node}
-use Rattle.functor_terms.specs.declared.node.Node.TheVariants.{State, Constant, Naturals, Product, Sum, Power, Powerset, Bag, Distribution, Integers, Rationals}
+use Rattle.file_cut.specs.declared.tree.Entry.{out-roll-Entry}
+use Rattle.functor_terms.specs.declared.node.Node.TheVariants.{State, Constant, Naturals, Power}
 use Rattle.functor_terms.specs.declared.node.LabelSet.{LabelSet}
-use Rattle.functor_terms.specs.Terms.{AreLabels, label_count, label_number, number_below}
+use Rattle.functor_terms.specs.Terms.{AreLabels, label_count, label_number}
 use Rattle.functor_terms.specs.Words.{place_of, AreNames}
 use Rattle.weights.specs.Numerals.{is_digits, number_of}
-use Rattle.typing.specs.declared.kind.TypeKind.TheVariants.{UnknownState, NotALabel, WrongShape, WrongCount, RepeatedKey, MissingKey, BadIndex, NotANumber}
+use Rattle.typing.specs.declared.kind.TypeKind.TheVariants.{UnknownState, NotALabel, WrongShape}
 use Rattle.typing.specs.declared.value.Value.{Value, Value-F, out-Value}
 use Rattle.typing.specs.declared.value.Value.TheVariants as value
-use Rattle.typing.specs.declared.value.Value.TheViews.{outs-State, outs-Label, outs-Tuple, outs-Inj, outs-Set, outs-Weights}
-use Rattle.typing.specs.Values.{state, state_in, label, label_in, index, inner, parts, parts_in, entries, entries_in, index_in, inner_in, states_below}
-use Rattle.typing.specs.Fits.{Check, no_check, check_at, each_fits, fits_level, fits_step}
-use Rattle.typing.specs.Bounds.{absolute_sum, are_positive, is_within, each_holds, entries_hold, joint_weight, weights_step}
-use Rattle.typing.proofs.MapLaws.{parts_below, inner_below, entries_below, state_within}
-use Rattle.typing.proofs.KeptWeights.{parts_within, inner_within, entries_within}
-use Rattle.typing.proofs.NormalLaws.{same_value, set_shape, product_shape, power_shape, sum_shape, weight_shape, IsWeighted, bag_weighted, distribution_weighted, integers_weighted, rationals_weighted}
+use Rattle.typing.specs.declared.value.Value.TheViews.{outs-State, outs-Label}
+use Rattle.typing.specs.Values.{state, state_in, label, label_in, parts, parts_in, states_below}
+use Rattle.typing.specs.Fits.{Check, check_at, fits_level, fits_step}
+use Rattle.typing.specs.Bounds.{is_within, weights_step}
+use Rattle.typing.proofs.MapLaws.{state_within}
+use Rattle.typing.proofs.NormalLaws.{same_value}
 use Rattle.fitting.specs.declared.fitted.Fitted.{Fitted, Fitted-F, out-Fitted, map-Fitted, fold_out-Fitted}
 use Rattle.fitting.specs.declared.fitted.Fitted.TheVariants as fitted
 use Rattle.fitting.specs.declared.fitted.Fitted.TheViews as shown
 use Rattle.fitting.specs.declared.fitted.Weight.{Weight}
-use Rattle.fitting.specs.declared.fitted.Weight.TheVariants as weight
-use Rattle.fitting.specs.Levels.{word, word_in, parts_in as tree_parts_in, branch_in, entries_in as tree_entries_in, held, key, weight_tree}
-use Rattle.fitting.specs.Levels as levels
-use Rattle.fitting.specs.Fitting.{Found, Fit, needs, demands, found, made, each, no_fit, fit_at, places, is_keyed, is_free, Slots, filled, all_held, empty_slots, power_of, is_alone, set_of, is_from_zero, has_weight}
-use Rattle.fitting.specs.Scaling.{Scale, no_scale, scale_at, scaled_weight, scaled_places, scaled_entries, scaled_level, scaled_step, denominators, denominators_step, denominator_of}
-use Rattle.fitting.proofs.FitSound.{places-suc, scaled-suc}
-use Rattle.structure_writer.specs.Text.{Write, no_write, write_at, word_at, label_word, weight_text, listed, paired, in_braces, in_parentheses, part_text, part_texts, keyed_texts, entry_text, entry_texts, weights_text, write_step}
-use Rattle.structure_writer.specs.Spelled.{fraction_spelled, free_weight, free_entry, free_entries, free_step, DividesAll}
-use Rattle.structure_writer.proofs.Marks.{IsPieceOf, IsTextOf, word-text, paired-piece, alone-piece, braces-text, tuple-text, inj-text}
+use Rattle.fitting.specs.Levels.{word, word_in, held, weight_tree}
+use Rattle.fitting.specs.Fitting.{Fit, needs, demands}
+use Rattle.fitting.specs.Scaling.{Scale, scaled_level, scaled_step, denominators, denominators_step, denominator_of}
+use Rattle.structure_writer.specs.Text.{Write, word_at, label_word, write_step}
+use Rattle.structure_writer.specs.Spelled.{free_step, DividesAll}
+use Rattle.structure_writer.proofs.Marks.{IsTextOf, word-text}
 use Rattle.structure_writer.proofs.Labels.{word-is, label-is}
-use Rattle.structure_writer.proofs.Numbers.{decimal-is, decimal-digits, decimal-below, decimal-name, IsWeightText, weight-is}
-use Rattle.structure_writer.proofs.Steps.{parts-suc}
+use Rattle.structure_writer.proofs.Numbers.{decimal-is, decimal-digits, decimal-name}
 
 -- ---- entries and their trees
 
@@ -162,7 +153,8 @@ power_count labels fs v h = by (out-Value v) h
 
 -- ---- what a text of a value spells
 
--- the text of a value spells a tree with at most n open, which denotes the value over the denominator l
+-- the text of a value spells a tree with at most n open, which denotes the value over the
+-- denominator l
 pub record IsWritten (l n : ℕ) (w : Write) (g : Fit) (s : Scale) (v : Value) : Type 0 where
   pub tree : Tree
   pub fitted : Fitted
@@ -188,9 +180,10 @@ Writes l names n w g s x y = (v : Value) → IsTested names x y v → IsWritten 
 module _ (l : ℕ) (names : List (List ℕ)) (are : AreNames names) where
   -- ---- leaves
 
-  pub state_written : (n : ℕ) (ws : List Write) (gs : List Fit) (ss : List Scale) (xs ys : List Check)
-      → Writes l names n (write_step l names State ws) (free_step names State gs) (scaled_step l State ss)
-      (fits_step State xs) (weights_step l State ys)
+  pub state_written : (n : ℕ) (ws : List Write) (gs : List Fit) (ss : List Scale)
+      (xs ys : List Check)
+      → Writes l names n (write_step l names State ws) (free_step names State gs)
+      (scaled_step l State ss) (fits_step State xs) (weights_step l State ys)
   state_written n ws gs ss xs ys v t =
       let (i, o) = state_shape xs (out-Value v) t.fitting in
       let at : state v ≡ Some i = ap state_in o in
@@ -214,7 +207,8 @@ module _ (l : ℕ) (names : List (List ℕ)) (are : AreNames names) where
 
   pub label_written : (n : ℕ) (labels : LabelSet) → AreLabels labels → (ws : List Write)
       (gs : List Fit) (ss : List Scale) (xs ys : List Check)
-      → Writes l names n (write_step l names (Constant labels) ws) (free_step names (Constant labels) gs)
+      → Writes l names n (write_step l names (Constant labels) ws)
+      (free_step names (Constant labels) gs)
       (scaled_step l (Constant labels) ss) (fits_step (Constant labels) xs)
       (weights_step l (Constant labels) ys)
   label_written n labels good ws gs ss xs ys v t =

@@ -1,11 +1,9 @@
 -- What the texts of parts, elements and entries spell, where each of them is written.
-use Rattle.std.proofs.Common.{◌≡◌, ℕ, zero, suc, ◌+◌, ◌-◌, ◌^◌, ◌<◌, ◌≤◌, Bool, true, false, not, ◌&&◌, List, [], ◌∷◌, ◌++◌, length, map, Option, Some, None, slice_get, refl, sym, ap, ◌∙◌, subst, arith, true≢false, append_assoc, append-nil}
-use Rattle.std.specs.Prelude.{◌==◌, if◌then◌else◌, Ok, Err, ℤ, pos, int_lt, unsigned_abs, codes, is_some, is_none, replicate, slice_set}
+use Rattle.std.proofs.Common.{◌≡◌, ℕ, suc, ◌+◌, ◌≤◌, true, ◌&&◌, List, [], ◌∷◌, ◌++◌, length, map, Some, None, refl, sym, ap, ◌∙◌, subst, arith, append_assoc, append-nil}
+use Rattle.std.specs.Prelude.{Ok, ℤ, is_some, is_none, replicate, slice_set}
 use Rattle.std.specs.Option.{option_map_or}
-use Rattle.std.specs.Int.{◌∣◌}
-use Rattle.std.specs.List.{list_all, AllByRecursion, AllZip, flat_map, sum_by}
-use Rattle.std.proofs.lemmas.Bool.{and_parts, and_from}
-use Rattle.std.proofs.lemmas.Bool.Decides.{nat_tests}
+use Rattle.std.specs.List.{list_all, AllByRecursion, AllZip}
+use Rattle.std.proofs.lemmas.Bool.{and_from}
 use Rattle.file_cut.specs.Trees.{SpellsEntry, SpellsWithin, entry}
 use Rattle.file_cut.specs.declared.tree.Tree.{Tree}
 use Rattle.file_cut.specs.declared.tree.Tree.TheVariants as tree
@@ -16,20 +14,18 @@ use Rattle.functor_terms.specs.declared.node.LabelSet.{LabelSet}
 use Rattle.functor_terms.specs.Terms.{AreLabels, label_count, label_number}
 use Rattle.typing.specs.declared.kind.TypeKind.TheVariants.{NotALabel, WrongShape, RepeatedKey, NotANumber}
 use Rattle.typing.specs.declared.value.Value.{Value}
-use Rattle.typing.specs.Bounds.{absolute_sum, is_within}
-use Rattle.weights.specs.declared.numeral.Numeral.{Numeral}
 use Rattle.fitting.specs.declared.fitted.Fitted.{Fitted}
 use Rattle.fitting.specs.declared.fitted.Weight.{Weight}
 use Rattle.fitting.specs.declared.fitted.Weight.TheVariants as weight
 use Rattle.fitting.specs.Levels.{word, held, key, weight_tree}
-use Rattle.fitting.specs.Fitting.{Found, Fit, needs, demands, found, made, each, fit_at, places, is_keyed, is_free, Slots, filled, all_held, is_alone, is_from_zero, has_weight, weighed}
-use Rattle.fitting.specs.Scaling.{Scale, scale_at, scaled_weight, scaled_places, scaled_entries, denominators, denominator_of}
-use Rattle.structure_writer.specs.Text.{Write, label_word, weight_text, paired, keyed_texts, entry_text, entry_texts}
+use Rattle.fitting.specs.Fitting.{Fit, needs, demands, found, made, each, is_keyed, is_free, Slots, filled, all_held, is_alone, has_weight, weighed}
+use Rattle.fitting.specs.Scaling.{Scale, scaled_entries}
+use Rattle.structure_writer.specs.Text.{Write, label_word, weight_text, keyed_texts, entry_texts}
 use Rattle.structure_writer.specs.Spelled.{fraction_spelled, free_weight, free_entry, DividesAll}
 use Rattle.structure_writer.proofs.Marks.{IsPieceOf, IsTextOf, word-text, paired-piece, alone-piece}
 use Rattle.structure_writer.proofs.Labels.{label-is}
-use Rattle.structure_writer.proofs.Numbers.{IsWeightText, weight-is}
-use Rattle.structure_writer.proofs.Written.{alone_held, alone_weight, paired_held, paired_weight, word_word, Divides, EntryDivides, IsWritten}
+use Rattle.structure_writer.proofs.Numbers.{IsWeightText}
+use Rattle.structure_writer.proofs.Written.{alone_held, alone_weight, paired_held, paired_weight, word_word, EntryDivides, IsWritten}
 
 -- l is the common denominator
 module _ (l n : ℕ) (w : Write) (g : Fit) (s : Scale) where

@@ -1,9 +1,9 @@
 -- What the text of a value spells at a node over children at which values are written.
-use Rattle.std.proofs.Common.{◌≡◌, ℕ, zero, suc, ◌+◌, ◌-◌, ◌^◌, ◌<◌, ◌≤◌, Bool, true, false, ◌&&◌, List, [], ◌∷◌, length, map, Option, Some, None, refl, sym, ap, ◌∙◌, subst, arith, true≢false}
+use Rattle.std.proofs.Common.{◌≡◌, ℕ, suc, ◌+◌, ◌-◌, ◌^◌, ◌<◌, ◌≤◌, Bool, true, false, ◌&&◌, List, [], ◌∷◌, length, map, Some, None, refl, sym, ap, ◌∙◌, subst, arith, true≢false}
 use Rattle.std.specs.Prelude.{◌==◌, if◌then◌else◌, Ok, ℤ, pos, int_lt, unsigned_abs, decimal, nat_le, replicate, IsTrue}
 use Rattle.std.specs.List.{list_all, AllByRecursion, AllZip}
 use Rattle.std.specs.Ordering.{int_eq}
-use Rattle.std.proofs.lemmas.Bool.{and_parts, and_from, leb-true}
+use Rattle.std.proofs.lemmas.Bool.{and_parts, leb-true}
 use Rattle.std.proofs.lemmas.Bool.Decides.{nat_tests}
 use Rattle.std.proofs.lemmas.List.Sums.{sum_by-cons}
 use Rattle.file_cut.specs.declared.tree.Tree.{Tree}
@@ -12,14 +12,14 @@ use Rattle.file_cut.specs.declared.tree.Tree.TheViews as trees
 use Rattle.functor_terms.specs.declared.node.Node.{Node}
 use Rattle.functor_terms.specs.declared.node.Node.TheVariants.{State, Constant, Naturals, Product, Sum, Power, Powerset, Bag, Distribution, Integers, Rationals}
 use Rattle.functor_terms.specs.declared.node.LabelSet.{LabelSet}
-use Rattle.functor_terms.specs.Terms.{AreLabels, HasLabels, takes, label_count, number_below}
+use Rattle.functor_terms.specs.Terms.{AreLabels, HasLabels, takes, number_below}
 use Rattle.functor_terms.specs.Words.{AreNames}
 use Rattle.typing.specs.declared.kind.TypeKind.TheVariants.{WrongShape, WrongCount, MissingKey, BadIndex}
-use Rattle.typing.specs.declared.value.Value.{Value, Value-F, out-Value}
+use Rattle.typing.specs.declared.value.Value.{Value, out-Value}
 use Rattle.typing.specs.declared.value.Value.TheVariants as value
 use Rattle.typing.specs.declared.value.Value.TheViews.{outs-Tuple, outs-Inj, outs-Set, outs-Weights}
 use Rattle.typing.specs.Values.{index, inner, parts, entries, states_below}
-use Rattle.typing.specs.Fits.{Check, check_at, each_fits, fits_level, fits_step}
+use Rattle.typing.specs.Fits.{Check, check_at, each_fits, fits_step}
 use Rattle.typing.specs.Bounds.{absolute_sum, are_positive, is_within, each_holds, entries_hold, joint_weight, weights_step}
 use Rattle.typing.proofs.MapLaws.{parts_below, inner_below, entries_below}
 use Rattle.typing.proofs.KeptWeights.{parts_within, inner_within, entries_within}
@@ -27,22 +27,23 @@ use Rattle.typing.proofs.NormalLaws.{same_value, set_shape, product_shape, power
 use Rattle.fitting.specs.declared.fitted.Fitted.{Fitted, Fitted-F}
 use Rattle.fitting.specs.declared.fitted.Fitted.TheVariants as fitted
 use Rattle.fitting.specs.declared.fitted.Fitted.TheViews as shown
-use Rattle.fitting.specs.declared.fitted.Weight.{Weight}
 use Rattle.fitting.specs.Levels.{parts_in as tree_parts_in, branch_in, entries_in as tree_entries_in}
-use Rattle.fitting.specs.Fitting.{Found, Fit, needs, demands, found, made, each, fit_at, places, Slots, filled, all_held, empty_slots, power_of, set_of, is_from_zero}
-use Rattle.fitting.specs.Scaling.{Scale, scale_at, scaled_places, scaled_entries, scaled_level, scaled_step}
+use Rattle.fitting.specs.Fitting.{Fit, needs, demands, found, made, fit_at, places, filled, all_held, empty_slots, power_of, set_of, is_from_zero}
+use Rattle.fitting.specs.Scaling.{Scale, scale_at, scaled_places, scaled_level, scaled_step}
 use Rattle.fitting.proofs.FitSound.{places-suc, scaled-suc}
 use Rattle.structure_writer.specs.Text.{Write, write_at, listed, in_braces, in_parentheses, part_text, part_texts, keyed_texts, entry_texts, weights_text, write_step}
 use Rattle.structure_writer.specs.Spelled.{free_entries, free_weights, free_step, DividesAll}
 use Rattle.structure_writer.proofs.Marks.{IsTextOf, braces-text, tuple-text, inj-text}
-use Rattle.structure_writer.proofs.Numbers.{decimal-is, decimal-below, decimal-name, IsWeightText, weight-is}
+use Rattle.structure_writer.proofs.Numbers.{decimal-is, decimal-below, decimal-name, weight-is}
 use Rattle.structure_writer.proofs.Steps.{parts-suc}
 use Rattle.structure_writer.proofs.Written.{all_divide, entries_divide, divides_of, power_count, IsWritten, IsTested, Writes, state_written, label_written, number_written}
 use Rattle.structure_writer.proofs.WrittenLists.{members, IsEntry, entries-of, powers, all-held}
 
 -- l is the common denominator, the states have these names, and children a are known by what is
 -- said of values there
-module _ (l : ℕ) (some : 1 ≤ l) (small : l ≤ 2 ^ 40) (names : List (List ℕ)) (are : AreNames names) (n : ℕ) {A : Type 0} (W : A → Write) (G : A → Fit) (S : A → Scale) (X Y : A → Check) where
+module _ (l : ℕ) (some : 1 ≤ l) (small : l ≤ 2 ^ 40) (names : List (List ℕ))
+    (are : AreNames names) (n : ℕ) {A : Type 0} (W : A → Write) (G : A → Fit) (S : A → Scale)
+    (X Y : A → Check) where
   -- values at a child are written
   abbrev pub IsGood : A → Type 0
   IsGood a = Writes l names n (W a) (G a) (S a) (X a) (Y a)

@@ -1,9 +1,9 @@
 -- What the text of a value spells at a term.
-use Rattle.std.proofs.Common.{◌≡◌, ℕ, zero, suc, ◌+◌, ◌^◌, ◌<◌, ◌≤◌, List, [], ◌∷◌, ◌++◌, length, map, refl, sym, ap, ◌∙◌, subst, arith, length-append}
+use Rattle.std.proofs.Common.{◌≡◌, ℕ, zero, suc, ◌^◌, ◌<◌, ◌≤◌, List, [], ◌∷◌, length, map, sym, ap, subst, arith, length-append}
 use Rattle.std.specs.Prelude.{IsTrue}
 use Rattle.std.specs.List.{AllByRecursion}
 use Rattle.functor_terms.specs.declared.node.Node.{Node}
-use Rattle.functor_terms.specs.Terms.{Nodes, Part, IsPart, IsTerm, HasLabels, takes, over, nodes_of, placed, fold}
+use Rattle.functor_terms.specs.Terms.{Nodes, Part, IsPart, IsTerm, HasLabels, takes, over, nodes_of}
 use Rattle.functor_terms.specs.Words.{AreNames}
 use Rattle.functor_terms.proofs.TermLaws.{IsBlock, part-block}
 use Rattle.functor_terms.proofs.PartFolds.{fold_part, fold-over}
@@ -14,7 +14,7 @@ use Rattle.fitting.specs.Scaling.{Scale, no_scale, scaled_step, scaled}
 use Rattle.structure_writer.specs.Text.{Write, no_write, write_step, text_at}
 use Rattle.structure_writer.specs.Spelled.{free_step, free_fitting}
 use Rattle.structure_writer.proofs.Written.{Writes}
-use Rattle.structure_writer.proofs.WrittenNodes.{IsGood, node-written}
+use Rattle.structure_writer.proofs.WrittenNodes.{node-written}
 
 blocks : (n : ℕ) (parts : List Part) → AllByRecursion (IsPart n) parts
     → AllByRecursion IsBlock parts
@@ -39,7 +39,8 @@ each_few (x ∷ xs) few =
     (omega (arith, size, few), each_few xs (omega (arith, size, few)))
 
 -- l is the common denominator, and the states have these names
-module _ (l : ℕ) (some : 1 ≤ l) (small : l ≤ 2 ^ 40) (names : List (List ℕ)) (are : AreNames names) where
+module _ (l : ℕ) (some : 1 ≤ l) (small : l ≤ 2 ^ 40) (names : List (List ℕ))
+    (are : AreNames names) where
   same_writes : (n : ℕ) (w w' : Write) (g g' : Fit) (s s' : Scale) (x x' y y' : Check)
       → w' ≡ w → g' ≡ g → s' ≡ s → x' ≡ x → y' ≡ y
       → Writes l names n w g s x y → Writes l names n w' g' s' x' y'

@@ -15,14 +15,14 @@ use Rattle.structure_writer.specs.Spelled.{Spells, IsWellFormed}
 abbrev pub TextsSpell : Type 0
 TextsSpell = (c : Content) → IsWellFormed c → Spells (canonical c) c
 
--- a text that spells a coalgebra, and is accepted as a file, denotes a coalgebra with the same term,
--- names and fractions
+-- a text that spells a coalgebra, and is accepted as a file, denotes a coalgebra with the same
+-- term, names and fractions
 abbrev pub FilesAreSpelled : Type 0
 FilesAreSpelled =
     (text : List ℕ) (d e : Content) → Spells text d → Reads text e → SameFractions d e
 
--- where the canonical text of a coalgebra is accepted as a file, it denotes a coalgebra with the same
--- term, names and fractions
+-- where the canonical text of a coalgebra is accepted as a file, it denotes a coalgebra with the
+-- same term, names and fractions
 abbrev pub TextsAreReadBack : Type 0
 TextsAreReadBack =
     (d e : Content) → IsWellFormed d → Reads (canonical d) e → SameFractions d e

@@ -4,7 +4,7 @@
 -- free_fitting t names p  == `fitting`, but each numeral and each whole number is read
 -- Spells text c           == the text is a functor line and rows, and they denote the coalgebra c
 -- IsWellFormed c          == c is what a coalgebra is in the code: what its type keeps
-use Rattle.std.specs.Prelude.{◌≡◌, ℕ, ◌≤◌, ◌^◌, List, length, map, drop, Option, Some, None, option_and_then, Ok, IsTrue, if◌then◌else◌, Bool}
+use Rattle.std.specs.Prelude.{◌≡◌, ℕ, ◌≤◌, ◌^◌, List, length, drop, Option, Some, None, option_and_then, Ok, IsTrue, if◌then◌else◌, Bool}
 use Rattle.std.specs.List.{AllByRecursion, AllZip, list_all}
 use Rattle.std.specs.Int.{◌∣◌}
 use Rattle.file_cut.specs.declared.tree.Tree.{Tree}
@@ -95,8 +95,8 @@ abbrev pub DividesAll : ℕ → Fitted → Type 0
 DividesAll l f = AllByRecursion (λ q. q ∣ l) (denominators f)
 
 -- The lines are a functor line and rows with distinct heads. The coalgebra has the term that the
--- functor line spells, the heads as names in line order, a multiple of all denominators from 1 on as
--- its denominator, and for each state the normal form over it of what its tree denotes.
+-- functor line spells, the heads as names in line order, a multiple of all denominators, from 1 on,
+-- as its denominator, and for each state the normal form over it of what its tree denotes.
 pub record Spells (text : List ℕ) (c : Content) : Type 0 where
   pub rows : List Row
   pub fitted : List Fitted

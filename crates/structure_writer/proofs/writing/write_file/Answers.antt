@@ -1,4 +1,4 @@
-use Rattle.std.proofs.Common.{◌≡◌, ◌<◌, ◌++◌, Some, slice_get, length, refl, arith, sym, subst, rules, take, ap, ◌∙◌}
+use Rattle.std.proofs.Common.{◌≡◌, ◌<◌, ◌++◌, Some, slice_get, length, refl, arith, sym, subst, take, ◌∙◌}
 use Rattle.std.specs.Prelude.{codes}
 use Rattle.std.proofs.lemmas.Option.{slice_get_read}
 use Rattle.std.proofs.lemmas.List.{take_all}
@@ -10,7 +10,7 @@ use Rattle.typing.specs.Contents.{content_of}
 use Rattle.typing.specs.declared.coalgebra.Coalgebra.{Coalgebra}
 use Rattle.structure_writer.specs.Spelled.{Spells, IsWellFormed}
 use Rattle.structure_writer.proofs.TextSpells.{text-spells}
-use Rattle.structure_writer.specs.Text.{text_at, canonical, state_lines}
+use Rattle.structure_writer.specs.Text.{text_at, state_lines}
 use Rattle.structure_writer.proofs.Steps.{put-line}
 use Rattle.structure_writer.proofs.writing.write_file.Goals as goal
 
