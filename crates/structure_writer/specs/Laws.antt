@@ -1,0 +1,28 @@
+-- Laws of the canonical text, as statements. Each is the contract of a function that does nothing.
+--
+-- TextsSpell         == the canonical text of a coalgebra spells it
+-- FilesAreSpelled    == a text that spells a coalgebra, and is accepted as a file, denotes the same
+--                       term, names and fractions
+-- TextsAreReadBack   == so does the canonical text of a coalgebra, where it is accepted as a file
+use Rattle.std.specs.Prelude.{ℕ, List}
+use Rattle.typing.specs.Contents.{Content}
+use Rattle.structure_parser.specs.Reads.{Reads}
+use Rattle.rescaling.specs.Rescaled.{SameFractions}
+use Rattle.structure_writer.specs.Text.{canonical}
+use Rattle.structure_writer.specs.Spelled.{Spells, IsWellFormed}
+
+-- the canonical text of a coalgebra spells it
+abbrev pub TextsSpell : Type 0
+TextsSpell = (c : Content) → IsWellFormed c → Spells (canonical c) c
+
+-- a text that spells a coalgebra, and is accepted as a file, denotes a coalgebra with the same
+-- term, names and fractions
+abbrev pub FilesAreSpelled : Type 0
+FilesAreSpelled =
+    (text : List ℕ) (d e : Content) → Spells text d → Reads text e → SameFractions d e
+
+-- where the canonical text of a coalgebra is accepted as a file, it denotes a coalgebra with the
+-- same term, names and fractions
+abbrev pub TextsAreReadBack : Type 0
+TextsAreReadBack =
+    (d e : Content) → IsWellFormed d → Reads (canonical d) e → SameFractions d e
