@@ -1,0 +1,6 @@
+mod Sizes
+mod Shrinks
+mod TreeSizes
+mod FitSizes
+mod LineSizes
+mod FileSizes
