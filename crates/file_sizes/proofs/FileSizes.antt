@@ -1,5 +1,5 @@
 -- What a file is read as is smaller than the file.
-use Rattle.std.proofs.Common.{◌≡◌, ℕ, zero, suc, ◌+◌, ◌^◌, ◌<◌, ◌≤◌, Bool, true, false, cond, List, [], ◌∷◌, ◌++◌, length, refl, sym, ap, ◌∙◌, subst, arith}
+use Rattle.std.proofs.Common.{◌≡◌, ℕ, suc, ◌+◌, ◌≤◌, Bool, true, false, cond, List, [], ◌∷◌, ◌++◌, length, refl, sym, ap, subst, arith}
 use Rattle.std.specs.Prelude.{Option, Some, None, Result, Ok, Err, is_some}
 use Rattle.std.specs.List.{AllZip}
 use Rattle.std.specs.Option.{option_map_or}
@@ -11,15 +11,13 @@ use Rattle.functor_terms.specs.Words.{place_of}
 use Rattle.typing.specs.declared.value.Value.{Value}
 use Rattle.typing.specs.declared.kind.TypeKind.{TypeKind}
 use Rattle.typing.specs.declared.kind.TypeKind.TheVariants.{RepeatedState}
-use Rattle.typing.specs.Contents.{Content}
-use Rattle.typing.specs.Layers.{AreFew}
 use Rattle.fitting.specs.declared.fitted.Fitted.{Fitted}
 use Rattle.fitting.specs.Fitting.{Found, fitting}
 use Rattle.fitting.specs.Scaling.{scaled}
 use Rattle.fitting.proofs.TreeLengths.{marks-few}
-use Rattle.structure_parser.specs.Rows.{Row, IsRowOf, AreRows}
+use Rattle.structure_parser.specs.Rows.{Row, IsRowOf}
 use Rattle.structure_parser.specs.Stages.{Outcome, Typed, typed_first, typed, bounded, summed, after_bounds, after_types, names_of, reads_rows}
-use Rattle.structure_parser.specs.Reads.{IsNormalForm, Reads}
+use Rattle.structure_parser.specs.Reads.{IsNormalForm}
 use Rattle.file_sizes.specs.Laws.{AcceptedFilesAreFew}
 use Rattle.file_sizes.proofs.Sizes.{size, sum_of, few_from_sizes}
 use Rattle.file_sizes.proofs.Shrinks.{normal_shrinks}

@@ -1,6 +1,6 @@
 -- What a tree denotes is no larger than its text has tokens.
 use Rattle.std.proofs.Common.{◌≡◌, ℕ, zero, suc, ◌+◌, ◌-◌, ◌≤◌, Bool, true, false, cond, List, [], ◌∷◌, length, map, Option, slice_get, refl, sym, ap, ◌∙◌, subst, arith}
-use Rattle.std.specs.Prelude.{ℤ, Some, None, Ok, ◌==◌, if◌then◌else◌, nat_le, slice_set, replicate}
+use Rattle.std.specs.Prelude.{Some, None, Ok, ◌==◌, if◌then◌else◌, slice_set, replicate}
 use Rattle.std.specs.Option.{option_map_or}
 use Rattle.std.specs.List.{list_all}
 use Rattle.std.proofs.lemmas.Bool.Decides.{nat_tests}
@@ -15,7 +15,7 @@ use Rattle.typing.specs.declared.value.Value.{Value, Value-F, out-Value}
 use Rattle.typing.specs.declared.value.Value.TheViews.{outs-Tuple, outs-Inj, outs-Set, outs-Weights}
 use Rattle.typing.specs.Values as typed
 use Rattle.typing.specs.declared.kind.TypeKind.TheVariants.{WrongShape, WrongCount, NotALabel, RepeatedKey, MissingKey, BadIndex}
-use Rattle.fitting.specs.declared.fitted.Fitted.{Fitted, Fitted-F, out-Fitted}
+use Rattle.fitting.specs.declared.fitted.Fitted.{Fitted, out-Fitted}
 use Rattle.fitting.specs.declared.fitted.Fitted.TheVariants as fitted
 use Rattle.fitting.specs.declared.fitted.Fitted.TheViews as shown
 use Rattle.fitting.specs.declared.fitted.Weight.{Weight}
@@ -24,7 +24,7 @@ use Rattle.fitting.specs.Fitting.{Found, Fit, needs, demands, found, made, no_fi
 use Rattle.fitting.specs.Scaling.{Scale, no_scale, scale_at, scaled_places, scaled_parts, scaled_entries, scaled_level, scaled_step, scaled}
 use Rattle.fitting.proofs.Inversions.{ok_same, err_ok, needs-ok, demands-ok, found-ok, made-ok}
 use Rattle.file_sizes.proofs.Sizes.{Size, no_size, size_at, sum_each, sum_of, size_step, size_within, size}
-use Rattle.file_sizes.proofs.TreeSizes.{IsInside, IsEntryInside, HaveShares, IsOpened, inside_opened}
+use Rattle.file_sizes.proofs.TreeSizes.{IsInside, IsEntryInside, HaveShares, inside_opened}
 
 -- what is read of a tree is no larger than its tokens
 pub record IsSmall (g : Fit) (s : Scale) (m : Size) : Type 0 where
@@ -261,6 +261,11 @@ module _
       ap (λ o. 1 + sum_each ms (typed.parts_in o)) (tuple_out Product fs f is) in
       omega (arith, bound, here, more, out)
 
+  sum_out : (w : Value) (k : ℕ) (x : Value) → out-Value w ≡ Value-F.Inj k x →
+      size_step 1 Sum ms w ≡ 1 + size_at ms k x
+  sum_out w k x e =
+      ap (λ (o : Value-F Value). 1 + size_at ms (typed.index_in o) (typed.inner_in w o)) e
+
   sum_small : (n : ℕ) (u : Tree) (f : Fitted) → IsInside n u → sum_fit gs u ≡ Ok f →
       sized Sum f ≤ n
   sum_small n u f i e =
@@ -273,9 +278,7 @@ module _
       let (h, e3, is) = made-ok (fitted.Inj k) (fit_at gs k b.1) f f2 in
       let (j, bound, inside) = (inside_opened n u i).of_branch b e1 in
       let here = (at_small qs k).small j b.1 h inside e3 in
-      let out : sized Sum f ≡ 1 + size_at ms k (scale_at ss k h) =
-      ap (λ o. 1 + size_at ms (typed.index_in o)
-      (typed.inner_in (scaled_step l Sum ss f) o)) (inj_out Sum k h f is) in
+      let out = sum_out (scaled_step l Sum ss f) k (scale_at ss k h) (inj_out Sum k h f is) in
       omega (arith, bound, here, out)
 
   power_small : (labels : LabelSet) (n : ℕ) (u : Tree) (f : Fitted) → IsInside n u →

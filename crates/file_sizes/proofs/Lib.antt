@@ -4,3 +4,5 @@ mod TreeSizes
 mod FitSizes
 mod LineSizes
 mod FileSizes
+mod Relabelled
+mod QuotientSizes

@@ -1,8 +1,8 @@
 -- The lines of a file are together no longer than the file.
-use Rattle.std.proofs.Common.{◌≡◌, ℕ, zero, suc, ◌+◌, ◌<◌, ◌≤◌, Bool, true, false, not, cond, List, [], ◌∷◌, length, filter, refl, sym, ap, ◌∙◌, subst, true≢false, arith}
+use Rattle.std.proofs.Common.{◌≡◌, ℕ, suc, ◌+◌, ◌≤◌, Bool, true, false, not, cond, List, [], ◌∷◌, length, filter, refl, sym, subst, true≢false, arith}
 use Rattle.std.specs.Prelude.{◌==◌}
 use Rattle.file_cut.specs.Bytes.{line_feed, carriage_return}
-use Rattle.file_cut.specs.Lines.{Numbered, before_first, begun, raw_lines, without_return, is_skipped, numbered, lines_from, lines_of}
+use Rattle.file_cut.specs.Lines.{Numbered, before_first, begun, raw_lines, without_return, is_skipped, numbered, lines_of}
 
 -- the length of all lines together
 abbrev raw_length : List (List ℕ) → ℕ

@@ -1,6 +1,6 @@
 -- A normal value is no larger than a value that is equal to it.
-use Rattle.std.proofs.Common.{◌≡◌, ℕ, zero, suc, ◌+◌, ◌-◌, ◌≤◌, Bool, true, false, not, cond, ◌&&◌, ◌||◌, List, [], ◌∷◌, length, map, Option, Some, None, slice_get, refl, sym, ap, ◌∙◌, subst, true≢false, arith, ⊎_elim}
-use Rattle.std.specs.Prelude.{ℤ, pos, ◌==◌, ◌⊎◌, if◌then◌else◌}
+use Rattle.std.proofs.Common.{◌≡◌, ℕ, zero, suc, ◌+◌, ◌-◌, ◌≤◌, Bool, true, false, not, cond, ◌||◌, List, [], ◌∷◌, length, map, Option, Some, None, slice_get, refl, sym, ap, ◌∙◌, subst, true≢false, arith, ⊎_elim}
+use Rattle.std.specs.Prelude.{ℤ, pos, ◌==◌, ◌⊎◌}
 use Rattle.std.specs.declared.cmp.Ordering.{Ordering}
 use Rattle.std.specs.declared.cmp.Ordering.TheVariants.{Less, Equal, Greater}
 use Rattle.std.specs.Ordering.{is_lt, int_eq}
@@ -21,7 +21,7 @@ use Rattle.typing.specs.Values.{index, inner, parts, entries}
 use Rattle.typing.specs.Layers.{weighed}
 use Rattle.typing.specs.Equality.{Test, no_test, test_at, each_place, has, weight_of, same_members, same_weights, eq_step, are_equal}
 use Rattle.typing.specs.Fits.{Check, no_check, check_at, each_fits, fits_step, fits}
-use Rattle.typing.specs.Order.{Form, no_form, form_at, ascends, each_normal, is_normal_list, is_normal_sum, form_step, form, is_normal}
+use Rattle.typing.specs.Order.{Form, no_form, form_at, ascends, each_normal, is_normal_list, is_normal_sum, form_step, is_normal}
 use Rattle.typing.proofs.Tests.{same_weights-Decides, weight_of-none}
 use Rattle.typing.proofs.Coarser.{all_where}
 use Rattle.typing.proofs.NormalLaws.{IsCanonical, none_canonical, step_canonical, set_shape, product_shape, power_shape, sum_shape, weight_shape, IsWeighted, bag_weighted, distribution_weighted, integers_weighted, rationals_weighted}

@@ -1,6 +1,6 @@
 -- How many values stand in a value at a node of a term, and that there are no more structures and
 -- no more edges.
-use Rattle.std.proofs.Common.{◌≡◌, ℕ, zero, suc, ◌+◌, ◌-◌, ◌^◌, ◌<◌, ◌≤◌, Bool, true, false, not, cond, List, [], ◌∷◌, length, map, filter, Option, Some, None, slice_get, refl, sym, ap, ◌∙◌, subst, true≢false, arith}
+use Rattle.std.proofs.Common.{◌≡◌, ℕ, zero, suc, ◌+◌, ◌-◌, ◌^◌, ◌<◌, ◌≤◌, Bool, true, false, not, cond, List, [], ◌∷◌, length, map, Option, Some, None, slice_get, refl, sym, ap, ◌∙◌, true≢false, arith}
 use Rattle.std.specs.Prelude.{◌==◌, if◌then◌else◌}
 use Rattle.std.specs.List.{zip}
 use Rattle.std.specs.Option.{option_map_or}
@@ -10,7 +10,7 @@ use Rattle.functor_terms.specs.declared.node.Branch.{Branch}
 use Rattle.functor_terms.specs.Terms.{Nodes, node_at, children_at, fold_within, fold}
 use Rattle.typing.specs.declared.value.Value.{Value}
 use Rattle.typing.specs.Values.{index, inner, parts}
-use Rattle.typing.specs.Layers.{Place, at_child, weighed, child_places, children_of, leaves_of, layers_in, is_state, is_state_at, over_within, added, roots_of, structure_count, sorted_count, edge_count, structures_in, sorted_in, edges_in, AreFew}
+use Rattle.typing.specs.Layers.{Place, at_child, weighed, child_places, children_of, leaves_of, layers_in, is_state, is_state_at, over_within, added, roots_of, structures_in, sorted_in, edges_in, AreFew}
 use Rattle.structures.proofs.Leaves.{leaves-children}
 
 -- how many values stand in a value
@@ -59,19 +59,6 @@ size_within a t n p = fold_within (no_size a) (size_step a) t n p
 abbrev pub size : ℕ → Nodes → ℕ → Size
 size a t p = fold (no_size a) (size_step a) t p
 
-step_positive : (m : Node) (ss : List Size) (v : Value) → 1 ≤ size_step 1 m ss v
-step_positive State ss v = omega arith
-step_positive (Constant labels) ss v = omega arith
-step_positive Naturals ss v = omega arith
-step_positive Product ss v = omega arith
-step_positive Sum ss v = omega arith
-step_positive (Power labels) ss v = omega arith
-step_positive Powerset ss v = omega arith
-step_positive Bag ss v = omega arith
-step_positive Distribution ss v = omega arith
-step_positive Integers ss v = omega arith
-step_positive Rationals ss v = omega arith
-
 -- a level by its node and its children
 pub size-level :
     (a : ℕ) (t : Nodes) (n p : ℕ) (v : Value) →
@@ -85,11 +72,6 @@ size-level a t n p v = by (slice_get t p)
         (map (size_within a t n) (option_map_or (λ b. b.children) o [])) v
     by None = refl
     by (Some b) = refl
-
-pub positive : (t : Nodes) (n p : ℕ) (v : Value) → 1 ≤ size_within 1 t n p v
-positive t zero p v = omega arith
-positive t (suc n) p v =
-    subst (λ k. 1 ≤ k) (sym (size-level 1 t n p v)) (step_positive (node_at t p) _ v)
 
 state_is : (m : Node) → is_state m ≡ true → m ≡ State
 state_is State h = refl
@@ -115,79 +97,112 @@ module _ (S : ℕ → Size) where
   one_node q [] = refl
   one_node q (u ∷ us) = ap (λ k. S q u + k) (one_node q us)
 
+  zeros : (us : List Value) → sum_of (λ v. 0) us ≡ 0
+  zeros [] = refl
+  zeros (u ∷ us) = let rest = zeros us in omega (arith, rest)
+
   first_child : (qs : List ℕ) (us : List Value) →
-      over_places (at_child qs 0 us) ≤ sum_of (size_at (map S qs) 0) us
-  first_child [] us = omega arith
-  first_child (q ∷ qs) us = omega (arith, one_node q us)
+      over_places (at_child qs 0 us) ≡ sum_of (size_at (map S qs) 0) us
+  first_child [] us = sym (zeros us)
+  first_child (q ∷ qs) us = one_node q us
 
   some_child : (qs : List ℕ) (k : ℕ) (v : Value) →
-      over_places (at_child qs k (v ∷ [])) ≤ size_at (map S qs) k v
-  some_child [] k v = omega arith
+      over_places (at_child qs k (v ∷ [])) ≡ size_at (map S qs) k v
+  some_child [] k v = refl
   some_child (q ∷ qs) k v = by (k == 0) (some_child qs (k - 1) v)
     where
-      by : (b : Bool) →
-          over_places (at_child qs (k - 1) (v ∷ [])) ≤ size_at (map S qs) (k - 1) v →
+      by :
+          (b : Bool) →
+          over_places (at_child qs (k - 1) (v ∷ [])) ≡ size_at (map S qs) (k - 1) v →
           over_places (cond b (map (λ u. (q, u)) (v ∷ [])) (at_child qs (k - 1) (v ∷ [])))
-          ≤ (cond b (S q) (size_at (map S qs) (k - 1))) v
+          ≡ (cond b (S q) (size_at (map S qs) (k - 1))) v
       by true later = omega arith
       by false later = later
 
   each_child : (qs : List ℕ) (us : List Value) →
-      over_places (zip qs us) ≤ sum_each (map S qs) us
-  each_child [] us = omega arith
-  each_child (q ∷ qs) [] = omega arith
-  each_child (q ∷ qs) (u ∷ us) = let rest = each_child qs us in omega (arith, rest)
+      over_places (zip qs us) ≡ sum_each (map S qs) us
+  each_child [] us = refl
+  each_child (q ∷ qs) [] = refl
+  each_child (q ∷ qs) (u ∷ us) = ap (λ k. S q u + k) (each_child qs us)
 
   -- the children of a layer node and the node itself
-  node_places : (m : Node) (qs : List ℕ) (p : ℕ) (v : Value) → is_state m ≡ false →
-      1 + over_places (child_places m qs p v) ≤ size_step 1 m (map S qs) v
-  node_places State qs p v h = absurd (true≢false h)
-  node_places (Constant labels) qs p v h = omega arith
-  node_places Naturals qs p v h = omega arith
-  node_places Product qs p v h = let k = each_child qs (parts v) in omega (arith, k)
-  node_places Sum qs p v h = let k = some_child qs (index v) (inner v) in omega (arith, k)
-  node_places (Power labels) qs p v h = let k = first_child qs (parts v) in omega (arith, k)
-  node_places Powerset qs p v h = let k = first_child qs (parts v) in omega (arith, k)
-  node_places Bag qs p v h = let k = first_child qs (weighed v) in omega (arith, k)
-  node_places Distribution qs p v h = let k = first_child qs (weighed v) in omega (arith, k)
-  node_places Integers qs p v h = let k = first_child qs (weighed v) in omega (arith, k)
-  node_places Rationals qs p v h = let k = first_child qs (weighed v) in omega (arith, k)
+  node_places : (a : ℕ) (m : Node) (qs : List ℕ) (p : ℕ) (v : Value) → is_state m ≡ false →
+      1 + over_places (child_places m qs p v) ≡ size_step a m (map S qs) v
+  node_places a State qs p v h = absurd (true≢false h)
+  node_places a (Constant labels) qs p v h = omega arith
+  node_places a Naturals qs p v h = omega arith
+  node_places a Product qs p v h = ap (λ k. 1 + k) (each_child qs (parts v))
+  node_places a Sum qs p v h = ap (λ k. 1 + k) (some_child qs (index v) (inner v))
+  node_places a (Power labels) qs p v h = ap (λ k. 1 + k) (first_child qs (parts v))
+  node_places a Powerset qs p v h = ap (λ k. 1 + k) (first_child qs (parts v))
+  node_places a Bag qs p v h = ap (λ k. 1 + k) (first_child qs (weighed v))
+  node_places a Distribution qs p v h = ap (λ k. 1 + k) (first_child qs (weighed v))
+  node_places a Integers qs p v h = ap (λ k. 1 + k) (first_child qs (weighed v))
+  node_places a Rationals qs p v h = ap (λ k. 1 + k) (first_child qs (weighed v))
 
   module _ (t : Nodes) (f : Place → ℕ) where
     -- what the layers among some places give
-    layer_sum : (ys : List Place) → ((y : Place) → f y ≤ S y.0 y.1) →
+    layers_less : (ys : List Place) → ((y : Place) → f y ≤ S y.0 y.1) →
         added (map f (layers_in t ys)) ≤ over_places ys
-    layer_sum [] h = omega arith
-    layer_sum (y ∷ ys) h = by (is_state_at t y) (layer_sum ys h)
+    layers_less [] h = omega arith
+    layers_less (y ∷ ys) h = by (is_state_at t y) (layers_less ys h)
       where
-        by : (b : Bool) → added (map f (layers_in t ys)) ≤ over_places ys →
+        by :
+            (b : Bool) → added (map f (layers_in t ys)) ≤ over_places ys →
             added (map f (cond (not b) (y ∷ layers_in t ys) (layers_in t ys)))
             ≤ S y.0 y.1 + over_places ys
         by true rest = omega (arith, rest)
         by false rest = let here = h y in omega (arith, rest, here)
 
-    -- the same, and one more for each place
-    edge_sum : (ys : List Place) → ((y : Place) → 1 ≤ S y.0 y.1) →
-        ((y : Place) → is_state_at t y ≡ false → f y + 1 ≤ S y.0 y.1) →
-        length ys + added (map f (layers_in t ys)) ≤ over_places ys
-    edge_sum [] one h = omega arith
-    edge_sum (y ∷ ys) one h = by (is_state_at t y) refl (edge_sum ys one h)
+    -- the same where states count nothing
+    layers_same :
+        (ys : List Place) → ((y : Place) → is_state_at t y ≡ true → S y.0 y.1 ≡ 0) →
+        ((y : Place) → is_state_at t y ≡ false → f y ≡ S y.0 y.1) →
+        added (map f (layers_in t ys)) ≡ over_places ys
+    layers_same [] none h = refl
+    layers_same (y ∷ ys) none h = by (is_state_at t y) refl (layers_same ys none h)
       where
-        by : (b : Bool) → is_state_at t y ≡ b →
-            length ys + added (map f (layers_in t ys)) ≤ over_places ys →
-            suc (length ys) + added (map f (cond (not b) (y ∷ layers_in t ys) (layers_in t ys)))
-            ≤ S y.0 y.1 + over_places ys
-        by true e rest = let here = one y in omega (arith, rest, here)
+        by :
+            (b : Bool) → is_state_at t y ≡ b →
+            added (map f (layers_in t ys)) ≡ over_places ys →
+            added (map f (cond (not b) (y ∷ layers_in t ys) (layers_in t ys)))
+            ≡ S y.0 y.1 + over_places ys
+        by true e rest = let here = none y e in omega (arith, rest, here)
         by false e rest = let here = h y e in omega (arith, rest, here)
+
+    -- the same, and one more for each place
+    places_same :
+        (ys : List Place) → ((y : Place) → is_state_at t y ≡ true → S y.0 y.1 ≡ 1) →
+        ((y : Place) → is_state_at t y ≡ false → f y + 1 ≡ S y.0 y.1) →
+        length ys + added (map f (layers_in t ys)) ≡ over_places ys
+    places_same [] one h = refl
+    places_same (y ∷ ys) one h = by (is_state_at t y) refl (places_same ys one h)
+      where
+        by :
+            (b : Bool) → is_state_at t y ≡ b →
+            length ys + added (map f (layers_in t ys)) ≡ over_places ys →
+            suc (length ys) + added (map f (cond (not b) (y ∷ layers_in t ys) (layers_in t ys)))
+            ≡ S y.0 y.1 + over_places ys
+        by true e rest = let here = one y e in omega (arith, rest, here)
+        by false e rest = let here = h y e in omega (arith, rest, here)
+
+-- a state has the size that states count
+state_size : (a : ℕ) (t : Nodes) (n : ℕ) (x : Place) → is_state_at t x ≡ true →
+    size_within a t n x.0 x.1 ≡ a
+state_size a t zero x h = refl
+state_size a t (suc n) x h =
+    size-level a t n x.0 x.1
+    ∙ ap (λ m. size_step a m (map (size_within a t n) (children_at t x.0)) x.1)
+    (state_is (node_at t x.0) h)
 
 -- the places below a structure are its children
 module _
     (t : Nodes) (below_of : Place → List Place)
     (are : (x : Place) → below_of x ≡ children_of t x) where
-  abbrev structures : ℕ → Place → ℕ
+  abbrev pub structures : ℕ → Place → ℕ
   structures n x = over_within 0 (λ y counts. 1 + added counts) below_of t n x
 
-  abbrev edges : ℕ → Place → ℕ
+  abbrev pub edges : ℕ → Place → ℕ
   edges n x = over_within 0 (λ y counts. length (below_of y) + added counts) below_of t n x
 
   -- a structure at a State node has itself alone
@@ -196,19 +211,50 @@ module _
       are x ∙ ap (λ m. child_places m (children_at t x.0) x.0 x.1) (state_is (node_at t x.0) h)
 
   no_layer : (x : Place) → is_state_at t x ≡ true → layers_in t (below_of x) ≡ []
-  no_layer x h =
-      ap (layers_in t) (alone x h) ∙ ap (λ b. cond (not b) (x ∷ []) []) h
+  no_layer x h = ap (layers_in t) (alone x h) ∙ ap (λ b. cond (not b) (x ∷ []) []) h
+
+  state_structures : (n : ℕ) (x : Place) → is_state_at t x ≡ true → structures (suc n) x ≡ 1
+  state_structures n x h =
+      let none : added (map (structures n) (layers_in t (below_of x))) ≡ 0 =
+      ap (λ ys. added (map (structures n) ys)) (no_layer x h) in
+      omega (arith, none)
+
+  state_edges : (n : ℕ) (x : Place) → is_state_at t x ≡ true → edges (suc n) x ≡ 1
+  state_edges n x h =
+      let none : added (map (edges n) (layers_in t (below_of x))) ≡ 0 =
+      ap (λ ys. added (map (edges n) ys)) (no_layer x h) in
+      let single : length (below_of x) ≡ 1 = ap length (alone x h) in
+      omega (arith, none, single)
 
   -- the places below a layer
-  layer_places : (n : ℕ) (x : Place) → is_state_at t x ≡ false →
-      1 + over_places (size_within 1 t n) (below_of x) ≤ size_within 1 t (suc n) x.0 x.1
-  layer_places n x h =
-      let here = node_places (size_within 1 t n) (node_at t x.0) (children_at t x.0) x.0 x.1 h in
-      subst (λ k. 1 + over_places (size_within 1 t n) (below_of x) ≤ k)
-      (sym (size-level 1 t n x.0 x.1))
-      (subst (λ ys. 1 + over_places (size_within 1 t n) ys
-      ≤ size_step 1 (node_at t x.0) (map (size_within 1 t n) (children_at t x.0)) x.1)
-      (sym (are x)) here)
+  layer_places : (a n : ℕ) (x : Place) → is_state_at t x ≡ false →
+      1 + over_places (size_within a t n) (below_of x) ≡ size_within a t (suc n) x.0 x.1
+  layer_places a n x h =
+      ap (λ ys. 1 + over_places (size_within a t n) ys) (are x)
+      ∙ node_places (size_within a t n) a (node_at t x.0) (children_at t x.0) x.0 x.1 h
+      ∙ sym (size-level a t n x.0 x.1)
+
+  -- where states count nothing, a layer has its size in structures
+  structures_are : (n : ℕ) (x : Place) → is_state_at t x ≡ false →
+      structures n x ≡ size_within 0 t n x.0 x.1
+  structures_are zero x h = refl
+  structures_are (suc n) x h =
+      let here = layer_places 0 n x h in
+      let rest =
+      layers_same (size_within 0 t n) t (structures n) (below_of x) (state_size 0 t n)
+      (structures_are n) in
+      omega (arith, here, rest)
+
+  -- where states count, a layer has one edge less
+  edges_are : (n : ℕ) (x : Place) → is_state_at t x ≡ false →
+      edges n x + 1 ≡ size_within 1 t n x.0 x.1
+  edges_are zero x h = refl
+  edges_are (suc n) x h =
+      let here = layer_places 1 n x h in
+      let rest =
+      places_same (size_within 1 t n) t (edges n) (below_of x) (state_size 1 t n)
+      (edges_are n) in
+      omega (arith, here, rest)
 
   few_structures : (n : ℕ) (x : Place) → structures n x ≤ size_within 1 t n x.0 x.1
   few_structures zero x = omega arith
@@ -217,43 +263,61 @@ module _
       by :
           ((y : Place) → structures n y ≤ size_within 1 t n y.0 y.1) → (b : Bool) →
           is_state_at t x ≡ b → structures (suc n) x ≤ size_within 1 t (suc n) x.0 x.1
-      by below true h =
-          let one = positive t (suc n) x.0 x.1 in
-          subst (λ ys. 1 + added (map (structures n) ys) ≤ size_within 1 t (suc n) x.0 x.1)
-          (sym (no_layer x h)) one
-      by below false h =
-          let here = layer_places n x h in
-          let rest = layer_sum (size_within 1 t n) t (structures n) (below_of x) below in
-          omega (arith, here, rest)
-
-  -- a layer has one edge less
-  abbrev IsLess : ℕ → Place → Type 0
-  IsLess n x =
-      (edges n x ≤ size_within 1 t n x.0 x.1)
-      × (is_state_at t x ≡ false → edges n x + 1 ≤ size_within 1 t n x.0 x.1)
-
-  few_edges : (n : ℕ) (x : Place) → IsLess n x
-  few_edges zero x = (omega arith, λ h. omega arith)
-  few_edges (suc n) x = by (few_edges n) (is_state_at t x) refl
-    where
-      layer :
-          ((y : Place) → IsLess n y) → is_state_at t x ≡ false →
-          edges (suc n) x + 1 ≤ size_within 1 t (suc n) x.0 x.1
-      layer less h =
-          let here = layer_places n x h in
-          let rest =
-          edge_sum (size_within 1 t n) t (edges n) (below_of x)
-          (λ y. positive t n y.0 y.1) (λ y e. (less y).1 e) in
-          omega (arith, here, rest)
-
-      by : ((y : Place) → IsLess n y) → (b : Bool) → is_state_at t x ≡ b → IsLess (suc n) x
       by less true h =
-          let one = positive t (suc n) x.0 x.1 in
-          let none : added (map (edges n) (layers_in t (below_of x))) ≡ 0 =
-          ap (λ ys. added (map (edges n) ys)) (no_layer x h) in
-          let single : length (below_of x) ≡ 1 = ap length (alone x h) in
-          (omega (arith, one, none, single), layer less)
-      by less false h = let here = layer less h in (omega (arith, here), layer less)
+          let one = state_structures n x h in
+          let two = state_size 1 t (suc n) x h in
+          omega (arith, one, two)
+      by less false h =
+          let here = layer_places 1 n x h in
+          let rest = layers_less (size_within 1 t n) t (structures n) (below_of x) less in
+          omega (arith, here, rest)
+
+  few_edges : (n : ℕ) (x : Place) → edges n x ≤ size_within 1 t n x.0 x.1
+  few_edges zero x = omega arith
+  few_edges (suc n) x = by (is_state_at t x) refl
+    where
+      by : (b : Bool) → is_state_at t x ≡ b → edges (suc n) x ≤ size_within 1 t (suc n) x.0 x.1
+      by true h =
+          let one = state_edges n x h in
+          let two = state_size 1 t (suc n) x h in
+          omega (arith, one, two)
+      by false h = let here = edges_are (suc n) x h in omega (arith, here)
+
+  -- a smaller value has no more structures
+  pub fewer_structures : (n p : ℕ) (u v : Value) →
+      size_within 0 t n p u ≤ size_within 0 t n p v → structures n (p, u) ≤ structures n (p, v)
+  fewer_structures zero p u v h = omega arith
+  fewer_structures (suc n) p u v h = by (is_state (node_at t p)) refl
+    where
+      by :
+          (b : Bool) → is_state (node_at t p) ≡ b →
+          structures (suc n) (p, u) ≤ structures (suc n) (p, v)
+      by true e =
+          let one = state_structures n (p, u) e in
+          let two = state_structures n (p, v) e in
+          omega (arith, one, two)
+      by false e =
+          let one = structures_are (suc n) (p, u) e in
+          let two = structures_are (suc n) (p, v) e in
+          omega (arith, one, two, h)
+
+  -- and no more edges
+  pub fewer_edges : (n p : ℕ) (u v : Value) →
+      size_within 1 t n p u ≤ size_within 1 t n p v → edges n (p, u) ≤ edges n (p, v)
+  fewer_edges zero p u v h = omega arith
+  fewer_edges (suc n) p u v h = by (is_state (node_at t p)) refl
+    where
+      by :
+          (b : Bool) → is_state (node_at t p) ≡ b →
+          edges (suc n) (p, u) ≤ edges (suc n) (p, v)
+      by true e =
+          let one = state_edges n (p, u) e in
+          let two = state_edges n (p, v) e in
+          omega (arith, one, two)
+      by false e =
+          let one = edges_are (suc n) (p, u) e in
+          let two = edges_are (suc n) (p, v) e in
+          omega (arith, one, two, h)
 
 over_roots : (t : Nodes) (f : Place → ℕ) (values : List Value) →
     ((v : Value) → f (0, v) ≤ size 1 t 0 v) →
@@ -271,7 +335,7 @@ few_from_sizes t values h =
     let b = over_roots t (sorted_in t) values
     (λ v. few_structures t (leaves_of t) (leaves-children t) (length t) (0, v)) in
     let c = over_roots t (edges_in t) values
-    (λ v. (few_edges t (leaves_of t) (leaves-children t) (length t) (0, v)).0) in
+    (λ v. few_edges t (leaves_of t) (leaves-children t) (length t) (0, v)) in
     record {
       structures = omega (arith, a, h);
       sorted = omega (arith, b, h);

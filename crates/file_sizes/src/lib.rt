@@ -1,4 +1,4 @@
-//! How large the coalgebra of a file can be.
+//! How large the coalgebra of a file can be, and a quotient of one.
 //!
 //! Seen as: laws of the definitions (`specs/Laws.antt`), each the contract of a function that does
 //! nothing.
@@ -7,4 +7,4 @@
 
 mod laws;
 
-pub use laws::accepted_files_are_few;
+pub use laws::{accepted_files_are_few, quotients_are_no_larger};
