@@ -115,6 +115,7 @@ module _ (c : Content) (s : System) (desorted : IsDesorted c.term c.values c.den
         legal = legal;
         halves = refined.halves;
         greatest = great;
+        labels = refl;
         count = refined.labels ∙ ap (λ k. length s.edges.1 + k) (sym scans_same);
         scans = refined.scans;
         few = refined.few;

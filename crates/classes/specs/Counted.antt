@@ -42,6 +42,7 @@ pub record IsCounted (c : Content) (sorted edges rise : ℕ) : Type 0 where
   pub halves : AreHalves first later answer.rounds
   pub greatest :
       IsGreatestStable any_agree (sorted_system c.term occurrences) answer.block_of
+  pub labels : answer.labels ≡ rise
   pub count : rise ≡ edges + scans_of_targets answer.scans occurrences
   pub scans : (y : ℕ) → y < sorted → 2 ^ slice_index answer.scans y ≤ sorted
   pub few : (k : ℕ) → sorted < 2 ^ (k + 1) → rise ≤ edges * (1 + k)
