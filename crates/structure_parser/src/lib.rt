@@ -6,5 +6,11 @@
 #![tactic(auto)]
 
 mod fault;
+mod heads;
+mod reading;
+mod rows;
+mod stage;
+mod values;
 
 pub use fault::FileFault;
+pub use reading::read_file;
