@@ -1,5 +1,5 @@
 -- First words of lines, and the names that they make.
-use Rattle.std.proofs.Common.{◌≡◌, ℕ, suc, ◌+◌, ◌≤◌, Bool, true, false, not, ◌||◌, List, [], ◌∷◌, ◌++◌, length, Option, Some, None, refl, sym, ap, ◌∙◌, subst, arith, length-append}
+use Rattle.std.proofs.Common.{◌≡◌, ℕ, suc, ◌+◌, ◌≤◌, Bool, true, false, not, ◌||◌, List, [], ◌∷◌, ◌++◌, length, Option, Some, None, refl, sym, ap, ◌∙◌, arith, length-append}
 use Rattle.std.specs.Prelude.{is_some, if◌then◌else◌}
 use Rattle.file_cut.specs.Bytes.{IsName}
 use Rattle.file_cut.specs.Lines.{Numbered}
@@ -8,8 +8,7 @@ use Rattle.file_cut.specs.declared.mark.Mark.{Mark}
 use Rattle.file_cut.specs.declared.mark.Mark.TheVariants.{Word}
 use Rattle.file_cut.proofs.CutLaws.{name-first}
 use Rattle.functor_terms.specs.Words.{place_of}
-use Rattle.structure_parser.specs.Stages.{with_head}
-use Rattle.structure_parser.specs.Reading.{word_in, word_first, first_word, with_word, is_old, names_in, fresh_in}
+use Rattle.structure_parser.specs.Reading.{word_in, word_first, first_word, with_word, is_old, fresh_in}
 
 word_is : (m : Mark) (w : List ℕ) → word_in m ≡ Some w → m ≡ Word w
 word_is (Word v) w e = let same : v ≡ w = cc in ap Word same

@@ -3,3 +3,4 @@ pub mod LineLengths
 pub mod RowLaws
 pub mod StageLaws
 pub mod ReadLaws
+pub mod FileLaws

@@ -1,26 +1,23 @@
 -- From what the passes answer to what a file is read as.
-use Rattle.std.proofs.Common.{◌≡◌, ℕ, ◌+◌, ◌≤◌, Bool, List, [], ◌∷◌, ◌++◌, length, map, Option, Some, None, refl, sym, ap, ◌∙◌, subst, arith, inl, inr}
-use Rattle.std.specs.Prelude.{Result, Ok, Err, IsTrue, IfOk, IfErr}
+use Rattle.std.proofs.Common.{◌≡◌, ℕ, ◌≤◌, Bool, List, [], ◌∷◌, length, Option, Some, None, refl, sym, ap, ◌∙◌, subst, arith, inr}
+use Rattle.std.specs.Prelude.{Ok, Err, IsTrue}
 use Rattle.std.specs.List.{AllZip, list_all}
 use Rattle.std.specs.Option.{option_map_or}
 use Rattle.std.proofs.lemmas.Bool.{and_from}
-use Rattle.std.proofs.lemmas.Result.{IfOk-weaker, IfErr-weaker}
 use Rattle.file_cut.specs.Lines.{Numbered, lines_of}
 use Rattle.functor_terms.specs.Terms.{Nodes}
 use Rattle.functor_terms.specs.Grammar.{SpellsTerm}
-use Rattle.typing.specs.declared.kind.TypeKind.{TypeKind}
-use Rattle.typing.specs.declared.coalgebra.Coalgebra.{Coalgebra}
 use Rattle.typing.specs.declared.value.Value.{Value}
-use Rattle.typing.specs.Contents.{Content, content_of}
+use Rattle.typing.specs.Contents.{Content}
 use Rattle.fitting.specs.declared.fitted.Fitted.{Fitted}
 use Rattle.structure_parser.specs.declared.fault.FileFault.{FileFault}
 use Rattle.structure_parser.specs.declared.fault.FileFault.TheVariants as answer
 use Rattle.structure_parser.specs.declared.stage.Kept.{Kept}
 use Rattle.structure_parser.specs.Rows.{Row, AreRows}
-use Rattle.structure_parser.specs.Stages.{Typed, typed, names_with, names_of, heads_of, bounded, summed, Outcome, after_types, after_bounds, reads_rows}
+use Rattle.structure_parser.specs.Stages.{Typed, typed, names_of, heads_of, bounded, Outcome, after_types, after_bounds, reads_rows}
 use Rattle.structure_parser.specs.Reads.{IsNormalForm, Reads, Tells, IsOutcome, most_bytes}
 use Rattle.structure_parser.specs.Reading.{rows_in, first_bad, names_in, fresh_in, typed_from, kept_of, told_all, short_kept, IsValueOf, TellsSum, TellsFault, AreRead, Says, TellsRows}
-use Rattle.structure_parser.specs.Reading.Told.{misfit, past_bound, fine}
+use Rattle.structure_parser.specs.Reading.Told.{fine}
 use Rattle.structure_parser.proofs.RowLaws.{good-rows, bad-sound}
 use Rattle.structure_parser.proofs.StageLaws.{names-rows, typed-fresh, names-heads, typed-length, told-fine, told-misfit, told-bound, short-summed, kept-length, kept-values}
 

@@ -1,9 +1,8 @@
 -- What the passes compute is what the stages say.
-use Rattle.std.proofs.Common.{◌≡◌, ℕ, suc, ◌+◌, ◌-◌, ◌==◌, Bool, true, false, List, [], ◌∷◌, ◌++◌, length, map, Option, Some, None, refl, sym, ap, ◌∙◌, subst, arith, append_assoc, append-nil, true≢false}
+use Rattle.std.proofs.Common.{◌≡◌, ℕ, suc, ◌-◌, ◌==◌, Bool, true, false, List, [], ◌∷◌, ◌++◌, length, Some, None, refl, sym, ap, ◌∙◌, arith, append_assoc, append-nil}
 use Rattle.std.proofs.Math.Dec.{eqb-suc-zero}
 use Rattle.std.specs.Prelude.{Result, Ok, Err, is_some, if◌then◌else◌}
 use Rattle.std.specs.List.{AllZip}
-use Rattle.std.specs.Option.{option_map_or}
 use Rattle.file_cut.specs.Lines.{Numbered}
 use Rattle.file_cut.specs.declared.tree.Tree.{Tree}
 use Rattle.functor_terms.specs.Words.{place_of}
@@ -16,10 +15,10 @@ use Rattle.fitting.specs.Fitting.{Found, fitting}
 use Rattle.fitting.specs.Scaling.{has_sums}
 use Rattle.structure_parser.specs.declared.stage.Kept.{Kept}
 use Rattle.structure_parser.specs.declared.stage.Stage.TheVariants as stage
-use Rattle.structure_parser.specs.Rows.{Row, row, IsRowOf}
-use Rattle.structure_parser.specs.Stages.{Typed, typed_first, typed, with_head, names_with, names_of, heads_of, bounded, summed}
+use Rattle.structure_parser.specs.Rows.{Row}
+use Rattle.structure_parser.specs.Stages.{Typed, typed_first, typed, with_head, names_with, heads_of, bounded, summed}
 use Rattle.structure_parser.specs.Reads.{IsNormalForm}
-use Rattle.structure_parser.specs.Reading.{row_of, rows_in, first_bad, first_word, word_first, is_old, with_word, names_in, fresh_in, row_fit, typed_from, kept, kept_of, Told, told_of, told_bound, told_all, short_kept, IsValueOf}
+use Rattle.structure_parser.specs.Reading.{row_of, rows_in, first_bad, first_word, word_first, is_old, with_word, names_in, fresh_in, row_fit, typed_from, kept_of, told_of, told_bound, told_all, short_kept, IsValueOf}
 use Rattle.structure_parser.specs.Reading.Told.{misfit, past_bound, fine}
 use Rattle.structure_parser.proofs.RowLaws.{row-sound, good-rest, rows-cons}
 

@@ -12,9 +12,8 @@
 -- told t names so_far rows == what is told of a file where so much is read, and these rows are left
 -- AreRead t lines c        == the lines behind the functor line denote the coalgebra
 -- TellsRows t lines fault  == the fault is that of the lines behind the functor line
-use Rattle.std.specs.Prelude.{◌≡◌, ℕ, suc, ◌-◌, ◌==◌, ◌≤◌, ◌^◌, Bool, true, false, IsTrue, List, [], ◌∷◌, ◌++◌, length, map, is_some, Option, Some, None, Result, Ok, Err, option_map, if◌then◌else◌}
+use Rattle.std.specs.Prelude.{◌≡◌, ℕ, suc, ◌-◌, ◌==◌, ◌≤◌, ◌^◌, Bool, false, IsTrue, List, [], ◌∷◌, ◌++◌, is_some, Option, Some, None, Result, Ok, Err, option_map, if◌then◌else◌}
 use Rattle.std.specs.List.{AllZip, AllByRecursion}
-use Rattle.std.specs.Option.{option_map_or}
 use Rattle.file_cut.specs.Lines.{Numbered}
 use Rattle.file_cut.specs.Tokens.{marks}
 use Rattle.file_cut.specs.Trees.{open_limit}

@@ -7,10 +7,12 @@
 
 mod fault;
 mod heads;
+mod laws;
 mod reading;
 mod rows;
 mod stage;
 mod values;
 
 pub use fault::FileFault;
+pub use laws::{faults_refuse_files, files_have_one_fault, files_have_one_reading};
 pub use reading::read_file;

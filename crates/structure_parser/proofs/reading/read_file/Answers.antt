@@ -1,4 +1,4 @@
-use Rattle.std.proofs.Common.{rules, ◌≡◌, ◌∷◌, ◌≤◌, ◌^◌, length, Err, refl, ap, inl, inr, arith}
+use Rattle.std.proofs.Common.{rules, ◌≡◌, ◌∷◌, ◌^◌, Err, refl, ap, inl, inr}
 use Rattle.std.proofs.lemmas.Result.{IfOk-weaker, IfErr-weaker}
 use Rattle.file_cut.specs.Lines.{Numbered, numbered_line, lines_of}
 use Rattle.typing.specs.Contents.{content_of}

@@ -1,7 +1,6 @@
 use Rattle.std.proofs.Common.{rules, ℕ, ◌≡◌, ◌∷◌, ◌≤◌, ◌^◌, List, [], length, sym, ap, ◌∙◌, subst}
 use Rattle.std.specs.Prelude.{Option}
 use Rattle.std.proofs.lemmas.Result.{IfOk-weaker, IfErr-weaker}
-use Rattle.std.specs.List.{AllByRecursion}
 use Rattle.file_cut.specs.Lines.{Numbered, numbered_line}
 use Rattle.structure_parser.specs.Reading.{rows_in, first_bad, told, told_all, Told, TellsFault}
 use Rattle.structure_parser.proofs.LineLengths.{AreShort}

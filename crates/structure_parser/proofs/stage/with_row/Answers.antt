@@ -1,4 +1,4 @@
-use Rattle.std.proofs.Common.{rules, ◌≡◌, ◌==◌, List, length, Ok, Err, refl, subst}
+use Rattle.std.proofs.Common.{◌≡◌, ◌==◌, length, Ok, Err, refl, subst}
 use Rattle.std.proofs.lemmas.Result.{IfOk-weaker}
 use Rattle.fitting.specs.declared.fault.FitFault.{FitFault}
 use Rattle.fitting.specs.declared.fitted.Fitted.{Fitted}
