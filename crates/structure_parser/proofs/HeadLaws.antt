@@ -45,25 +45,28 @@ counted-step names new line lines true is_new fresh next total tells made goes s
 counted-step names new line lines false is_new fresh next total tells made goes so_far =
     by (is_old names (first_word line.text)) refl is_new refl
   where
+    later : ℕ
+    later = fresh_in (with_word names (first_word line.text)) lines
+
     by : (old : Bool) → is_old names (first_word line.text) ≡ old → (b : Bool) → is_new ≡ b →
         (if not is_new then next else next + fresh_in new lines) ≡ total
     by true e b q =
         let no : is_new ≡ false = tells ∙ ap not e in
         let none : fresh_in names (line ∷ lines) ≡ 0 =
-        ap (λ (c : Bool). if c then 0 else suc (fresh_in (with_word names (first_word line.text)) lines)) e
-        in
+        ap (λ (c : Bool). if c then 0 else suc later) e in
         let same : next ≡ fresh = goes ∙ ap (λ c. if not c then fresh else fresh + 1) no in
         ap (λ c. if not c then next else next + fresh_in new lines) no
         ∙ omega (arith, same, none, so_far)
     by false e b q =
         let yes : is_new ≡ true = tells ∙ ap not e in
         let more : fresh_in names (line ∷ lines) ≡ suc (fresh_in new lines) =
-        ap (λ (c : Bool). if c then 0 else suc (fresh_in (with_word names (first_word line.text)) lines)) e
+        ap (λ (c : Bool). if c then 0 else suc later) e
         ∙ ap (λ (l : List (List ℕ)). suc (fresh_in l lines)) (sym made) in
         let same : next ≡ fresh + 1 = goes ∙ ap (λ c. if not c then fresh else fresh + 1) yes in
         ap (λ c. if not c then next else next + fresh_in new lines) yes
         ∙ omega (arith, same, more, so_far)
 
+-- a count goes up by one at most
 pub counted-less : (again : Bool) (fresh next : ℕ) →
     next ≡ (if again then fresh else fresh + 1) → next ≤ fresh + 1
 counted-less true fresh next e = omega (arith, e)

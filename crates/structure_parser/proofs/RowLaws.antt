@@ -83,18 +83,15 @@ row-is line r is =
 
 -- ---- lists of lines
 
-rest-good : (line : Numbered) (lines : List Numbered) → first_bad (line ∷ lines) ≡ None →
+-- where no line is bad, the first is a row
+pub good-rest : (line : Numbered) (lines : List Numbered) → first_bad (line ∷ lines) ≡ None →
     (r : Row) × (row_of line ≡ Some r) × (first_bad lines ≡ None)
-rest-good line lines e = by (row_of line) refl e
+good-rest line lines e = by (row_of line) refl e
   where
     by : (o : Option Row) → row_of line ≡ o → bad_first line.number (first_bad lines) o ≡ None →
         (r : Row) × (row_of line ≡ Some r) × (first_bad lines ≡ None)
     by None is e = absurd (none_some line.number (sym e))
     by (Some r) is e = (r, is, e)
-
-pub good-rest : (line : Numbered) (lines : List Numbered) → first_bad (line ∷ lines) ≡ None →
-    (r : Row) × (row_of line ≡ Some r) × (first_bad lines ≡ None)
-good-rest = rest-good
 
 -- the rows of lines of which the first is a row
 pub rows-cons : (line : Numbered) (lines : List Numbered) (r : Row) → row_of line ≡ Some r →
@@ -116,7 +113,7 @@ pub good-rows : (lines : List Numbered) → first_bad lines ≡ None →
     AllZip IsRowOf lines (rows_in lines)
 good-rows [] e = tt
 good-rows (line ∷ lines) e =
-    let (r, is, later) = rest-good line lines e in
+    let (r, is, later) = good-rest line lines e in
     subst (λ (l : List Row). AllZip IsRowOf (line ∷ lines) l) (sym (rows-cons line lines r is))
     (row-sound line r is, good-rows lines later)
 

@@ -53,7 +53,8 @@ typed-suc t names k r rows =
 -- a count of lines with new first words does for the heads before each row
 pub typed-fresh : (t : Nodes) (names before : List (List ℕ)) (lines : List Numbered) →
     first_bad lines ≡ None →
-    typed_from t names (fresh_in before lines) (rows_in lines) ≡ typed t names before (rows_in lines)
+    typed_from t names (fresh_in before lines) (rows_in lines)
+    ≡ typed t names before (rows_in lines)
 typed-fresh t names before [] good = refl
 typed-fresh t names before (line ∷ lines) good =
     let (r, is, later) = good-rest line lines good in
@@ -67,6 +68,9 @@ typed-fresh t names before (line ∷ lines) good =
     (typed-fresh t names (before ++ r.head ∷ []) lines later)
     ∙ sym (ap (typed t names before) rows)
   where
+    later : ℕ
+    later = fresh_in (with_word before (first_word line.text)) lines
+
     by : (r : Row) (b : Bool) → is_some (place_of r.head before) ≡ b →
         is_old before (first_word line.text) ≡ is_some (place_of r.head before) →
         with_word before (first_word line.text) ≡ with_head before r.head →
@@ -76,7 +80,7 @@ typed-fresh t names before (line ∷ lines) good =
         ≡ typed t names before (r ∷ rows_in lines)
     by r true e old more rest =
         let none : fresh_in before (line ∷ lines) ≡ 0 =
-        ap (λ (c : Bool). if c then 0 else suc (fresh_in (with_word before (first_word line.text)) lines))
+        ap (λ (c : Bool). if c then 0 else suc later)
         (old ∙ e) in
         ap (λ n. typed_from t names n (r ∷ rows_in lines)) none
         ∙ sym (ap (λ (c : Bool). if c then Err (r.line, RepeatedState)
@@ -86,7 +90,7 @@ typed-fresh t names before (line ∷ lines) good =
         let pushed : with_word before (first_word line.text) ≡ before ++ r.head ∷ [] =
         more ∙ ap (λ (c : Bool). if c then before else before ++ r.head ∷ []) e in
         let some : fresh_in before (line ∷ lines) ≡ suc (fresh_in (before ++ r.head ∷ []) lines) =
-        ap (λ (c : Bool). if c then 0 else suc (fresh_in (with_word before (first_word line.text)) lines))
+        ap (λ (c : Bool). if c then 0 else suc later)
         (old ∙ e)
         ∙ ap (λ (l : List (List ℕ)). suc (fresh_in l lines)) pushed in
         ap (λ n. typed_from t names n (r ∷ rows_in lines)) some

@@ -41,9 +41,9 @@ pub record IsNormalForm (l : ℕ) (t : Nodes) (f : Fitted) (v : Value) : Type 0 
   pub normal : IsTrue (is_normal t 0 v)
   pub equal : IsTrue (are_equal t 0 v (scaled l t 0 f))
 
--- The lines are a functor line and rows, and no stage finds a fault. The coalgebra has the term that
--- the functor line spells, the heads as names in line order, the common denominator of all weights,
--- and for each state the normal form of its tree.
+-- The lines are a functor line and rows, and no stage finds a fault. The coalgebra has the term
+-- that the functor line spells, the heads as names in line order, the common denominator of all
+-- weights, and for each state the normal form of its tree.
 pub record Reads (bytes : List ℕ) (c : Content) : Type 0 where
   pub rows : List Row
   pub fitted : List Fitted

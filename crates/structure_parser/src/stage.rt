@@ -10,7 +10,7 @@ ghost use Rattle.fitting.specs.Fitting.{Gives};
 ghost use Rattle.fitting.specs.Scaling.{are_numerals, lists_within, IsFitted};
 ghost use Rattle.structure_parser.specs.Rows.{Row, row};
 ghost use Rattle.structure_parser.specs.Stages.{joined_with};
-ghost use Rattle.structure_parser.specs.Reading.{row_fit, told, IsInRange, IsNoMisfit, IsSound, IsShort};
+ghost use Rattle.structure_parser.specs.Reading.{row_fit, told, IsInRange, IsNoMisfit, IsSound, IsShort, TellsOn};
 
 use file_cut::Tree;
 use fitting::{FitFault, Fitted, fit};
@@ -80,10 +80,7 @@ fn joined(l: u64, fitted: &Fitted) -> Option<u64>
 fn with_fitted(so_far: SoFar, line: u32, fitted: Fitted) -> Result<SoFar, AllocError>
     requires numerals { IsTrue (are_numerals fitted) }
     requires in_range { IsInRange so_far.stage }
-    ensures told { IfOk result (λ new.
-        (t : Nodes) (names : List (List ℕ)) (head : List ℕ) (tree : TheTree) (rest : List Row) →
-        row_fit t names (so_far.fresh == 0) tree ≡ Ok fitted →
-        told t names new rest ≡ told t names so_far (row line head tree ∷ rest)) }
+    ensures told { IfOk result (TellsOn so_far line (Ok fitted)) }
     ensures sound { IfOk result (λ new. (t : Nodes) (n : ℕ) →
         IsFitted t n fitted → IsTrue (lists_within (2 ^ 26) fitted) →
         IsSound t n so_far → IsSound t n new) }
@@ -113,9 +110,7 @@ fn with_fitted(so_far: SoFar, line: u32, fitted: Fitted) -> Result<SoFar, AllocE
 /// One row more, which does not fit.
 fn with_misfit(so_far: SoFar, line: u32, kind: TypeKind) -> SoFar
     requires none_before { IsNoMisfit so_far.stage }
-    ensures told { (t : Nodes) (names : List (List ℕ)) (head : List ℕ) (tree : TheTree) (rest : List Row) →
-        row_fit t names (so_far.fresh == 0) tree ≡ Err kind →
-        told t names result rest ≡ told t names so_far (row line head tree ∷ rest) }
+    ensures told { TellsOn so_far line (Err kind) result }
     ensures sound { (t : Nodes) (n : ℕ) → IsSound t n so_far → IsSound t n result }
 {
     let SoFar { fresh, kept, .. } = so_far;
