@@ -1,0 +1,5 @@
+pub mod Rows
+pub mod Stages
+pub mod Reads
+pub mod Laws
+pub mod Reading
