@@ -3,8 +3,8 @@
 use Rattle.std.proofs.Common.{◌≡◌, ℕ, ◌-◌, ◌≤◌, Bool, true, false, not, ◌&&◌, ◌||◌, List, [], ◌∷◌, ◌++◌, map, refl, sym, ap, ◌∙◌}
 use Rattle.std.specs.Prelude.{ℤ, pos, ◌+ℤ◌, ◌==◌, if◌then◌else◌}
 use Rattle.std.specs.Cmp.Lexicographic.{pointwise, slice_cmp}
-use Rattle.std.specs.List.{list_all, list_any, AllZip}
-use Rattle.std.specs.Ordering.{int_eq, int_cmp, nat_cmp, ordering_then, is_lt}
+use Rattle.std.specs.List.{list_all, AllZip}
+use Rattle.std.specs.Ordering.{int_eq, nat_cmp, ordering_then, is_lt}
 use Rattle.std.specs.declared.cmp.Ordering.{Ordering}
 use Rattle.std.specs.declared.cmp.Ordering.TheVariants.{Less, Equal, Greater}
 use Rattle.std.proofs.lemmas.Bool.{eqb-true}
@@ -19,7 +19,7 @@ use Rattle.typing.specs.declared.value.Value.TheVariants as value
 use Rattle.typing.specs.Values.{index, inner, parts, entries}
 use Rattle.typing.specs.Equality.{Test, no_test, test_at, each_place, has, same_members, total, the_sum, same_totals, eq_step, are_equal}
 use Rattle.typing.specs.Fits.{fits}
-use Rattle.typing.specs.Order.{Compare, Form, no_form, form_at, each_cmp, entry_cmp, cmp_step, ascends, each_normal, is_normal_list, is_normal_sum, normal_step, form_step, form, compare, is_normal}
+use Rattle.typing.specs.Order.{Form, no_form, form_at, each_cmp, entry_cmp, cmp_step, ascends, each_normal, is_normal_list, is_normal_sum, normal_step, form_step, form, compare, is_normal}
 use Rattle.typing.proofs.OrderLaws.{equal_numbers}
 use Rattle.rescaling.specs.Rescaled.{Rescale, no_rescale, rescale_at, rescaled_places, rescaled_weight, rescaled_entries, rescaled}
 use Rattle.rescaling.proofs.Numbers.{KeepsNumbers, weight-keeps}

@@ -1,5 +1,10 @@
-pub mod Numbers
-pub mod Levels
+pub mod Apart
 pub mod ByNode
+pub mod Forms
 pub mod Kept
+pub mod Levels
+pub mod Numbers
+pub mod Relabelled
+pub mod SameFractions
 pub mod Scaled
+pub mod Sums

@@ -1,5 +1,5 @@
--- Weights that are multiplied by one number above 0 keep their order, their equality and their sums.
-use Rattle.std.proofs.Common.{◌≡◌, ℕ, zero, suc, ◌*◌, ◌<◌, ◌≤◌, Bool, true, false, cond, refl, sym, ap, ◌∙◌, subst, arith}
+-- Weights that are multiplied by one number above 0 keep their order, equality and sums.
+use Rattle.std.proofs.Common.{◌≡◌, ℕ, zero, suc, ◌*◌, ◌<◌, ◌≤◌, Bool, true, false, cond, refl, sym, ap, ◌∙◌, arith}
 use Rattle.std.specs.Prelude.{ℤ, pos, negsuc, neg_ℤ, ◌+ℤ◌, ◌*ℤ◌, int_lt, if◌then◌else◌}
 use Rattle.std.specs.declared.cmp.Ordering.TheVariants.{Less, Equal, Greater}
 use Rattle.std.specs.Ordering.{int_cmp, int_eq}
@@ -8,7 +8,6 @@ use Rattle.std.proofs.Math.IntN.{+ℤ_assoc, +ℤ_comm, *ℤ_comm, *ℤ-zero, su
 use Rattle.std.proofs.Math.Nat.{lt_of_mul-lt-mul_right, mul-lt-mul_of_pos_right, mul-pos, zero-mul}
 use Rattle.std.proofs.lemmas.Bool.Decides.{same_from_decides, Decides-ltb, Decides-int_eq}
 use Rattle.functor_terms.specs.declared.node.Node.{Node}
-use Rattle.functor_terms.specs.declared.node.Node.TheVariants.{State, Constant, Naturals, Product, Sum, Power, Powerset, Bag, Distribution, Integers, Rationals}
 use Rattle.fitting.specs.Fitting.{has_fractions}
 use Rattle.weights.specs.FractionLaws.{cancel_factor}
 use Rattle.rescaling.specs.Rescaled.{rescaled_weight}
@@ -18,6 +17,7 @@ pub record KeepsNumbers (f : ℤ → ℤ) : Type 0 where
   pub none : f (pos 0) ≡ pos 0
   pub sums : (a b : ℤ) → f (a +ℤ b) ≡ f a +ℤ f b
   pub equal : (a b : ℤ) → int_eq (f a) (f b) ≡ int_eq a b
+  pub below : (a b : ℤ) → int_lt (f a) (f b) ≡ int_lt a b
   pub order : (a b : ℤ) → int_cmp (f a) (f b) ≡ int_cmp a b
   pub tells : (a b : ℤ) → f a ≡ f b → a ≡ b
 
@@ -26,6 +26,7 @@ same-keeps = record {
   none = refl;
   sums = λ a b. refl;
   equal = λ a b. refl;
+  below = λ a b. refl;
   order = λ a b. refl;
   tells = λ a b e. e;
 }
@@ -51,15 +52,17 @@ times-sum a b (suc k) =
 
 times-below : (a b k : ℕ) → 1 ≤ k → ltb (a * k) (b * k) ≡ ltb a b
 times-below a b k some =
-    same_from_decides (ltb (a * k) (b * k)) (ltb a b) (Decides-ltb (a * k) (b * k))
-    (λ h. mul-lt-mul_of_pos_right ((Decides-ltb a b).0 h) some,
-    λ h. (Decides-ltb a b).1 (lt_of_mul-lt-mul_right k h))
+    same_from_decides (ltb (a * k) (b * k)) (ltb a b) (Decides-ltb (a * k) (b * k)) (
+      λ h. mul-lt-mul_of_pos_right ((Decides-ltb a b).0 h) some,
+      λ h. (Decides-ltb a b).1 (lt_of_mul-lt-mul_right k h),
+    )
 
 below-suc : (a b : ℕ) → ltb (suc a) (suc b) ≡ ltb a b
 below-suc a b =
-    same_from_decides (ltb (suc a) (suc b)) (ltb a b) (Decides-ltb (suc a) (suc b))
-    (λ h. let e = (Decides-ltb a b).0 h in omega (arith, e),
-    λ h. (Decides-ltb a b).1 (omega (arith, h)))
+    same_from_decides (ltb (suc a) (suc b)) (ltb a b) (Decides-ltb (suc a) (suc b)) (
+      λ h. let e = (Decides-ltb a b).0 h in omega (arith, e),
+      λ h. (Decides-ltb a b).1 (omega (arith, h)),
+    )
 
 -- the product of a negative number is one less than the negative of something
 negative : (a k : ℕ) → 1 ≤ k → (n : ℕ) × (negsuc a *ℤ pos k ≡ negsuc n) × (suc a * k ≡ suc n)
@@ -89,9 +92,11 @@ times-keeps k some = record {
   sums = λ a b. times-sum a b k;
   equal = λ a b.
       same_from_decides (int_eq (a *ℤ pos k) (b *ℤ pos k)) (int_eq a b)
-      (Decides-int_eq (a *ℤ pos k) (b *ℤ pos k))
-      (λ h. ap (λ x. x *ℤ pos k) ((Decides-int_eq a b).0 h),
-      λ h. (Decides-int_eq a b).1 (cancel_factor a b k some h));
+      (Decides-int_eq (a *ℤ pos k) (b *ℤ pos k)) (
+        λ h. ap (λ x. x *ℤ pos k) ((Decides-int_eq a b).0 h),
+        λ h. (Decides-int_eq a b).1 (cancel_factor a b k some h),
+      );
+  below = λ a b. times-order a b k some;
   order = λ a b. λ i.
       cond (times-order a b k some i) Less (cond (times-order b a k some i) Greater Equal);
   tells = λ a b e. cancel_factor a b k some e;

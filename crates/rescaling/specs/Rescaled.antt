@@ -3,7 +3,8 @@
 --
 -- rescaled k t p v   == the value v at node p, where each weight of a distribution or of rationals
 --                       is multiplied by k
--- SameFractions d e  == d is e over a multiple of its denominator: the same term, names and fractions
+-- SameFractions d e  == d is e over a multiple of its denominator: the same term, names and
+--                       fractions
 use Rattle.std.specs.Prelude.{◌≡◌, ℕ, ◌-◌, ◌*◌, ℤ, pos, ◌*ℤ◌, ◌==◌, if◌then◌else◌, List, [], ◌∷◌, map}
 use Rattle.functor_terms.specs.declared.node.Node.{Node}
 use Rattle.functor_terms.specs.declared.node.Node.TheVariants.{Product}
@@ -52,7 +53,8 @@ rescaled_level k m rs (Value-F.Label n) = value.Label n
 rescaled_level k m rs (Value-F.Tuple vs) = value.Tuple (rescaled_parts m rs vs)
 rescaled_level k m rs (Value-F.Inj j v) = value.Inj j (rescale_at rs j v)
 rescaled_level k m rs (Value-F.Set vs) = value.Set (map (rescale_at rs 0) vs)
-rescaled_level k m rs (Value-F.Weights es) = value.Weights (rescaled_entries k m (rescale_at rs 0) es)
+rescaled_level k m rs (Value-F.Weights es) =
+    value.Weights (rescaled_entries k m (rescale_at rs 0) es)
 
 -- the same of the value itself
 abbrev pub rescaled_step : ℕ → Node → List Rescale → Rescale
@@ -63,8 +65,8 @@ rescaled_step k m rs v = rescaled_level k m rs (out-Value v)
 abbrev pub rescaled : ℕ → Nodes → ℕ → Rescale
 rescaled k t p = fold no_rescale (rescaled_step k) t p
 
--- d is e over a multiple of its denominator: the term, the names and the fractions are the same, and
--- each weight of d is that of e over the larger denominator
+-- d is e over a multiple of its denominator: the term, the names and the fractions are the same,
+-- and each weight of d is that of e over the larger denominator
 pub record SameFractions (d e : Content) : Type 0 where
   pub factor : ℕ
   pub same_term : e.term ≡ d.term
