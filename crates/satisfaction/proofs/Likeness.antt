@@ -42,7 +42,7 @@ use Rattle.formula_checker.specs.LayerValues.{joint_with, layer_value}
 use Rattle.satisfaction.specs.Satisfaction.{layers_of, holds_in}
 use Rattle.satisfaction.proofs.Layer.{same_test, child_cases, through_child, joint_none, trits_pointwise, occurs, joint_same}
 
--- tests of relabelled values
+-- a test of relabelled values, place by place
 pointwise_map :
     (e : Test) (r : Value → Value) (us vs : List Value) →
     pointwise e (map r us) (map r vs) ≡ pointwise (λ x y. e (r x) (r y)) us vs
@@ -51,12 +51,14 @@ pointwise_map e r [] (v ∷ vs) = refl
 pointwise_map e r (u ∷ us) [] = refl
 pointwise_map e r (u ∷ us) (v ∷ vs) = ap (λ o. e (r u) (r v) && o) (pointwise_map e r us vs)
 
+-- some relabelled value is equal to a relabelled one
 has_map :
     (e : Test) (r : Value → Value) (us : List Value) (a : Value) →
     has e (map r us) (r a) ≡ has (λ x y. e (r x) (r y)) us a
 has_map e r [] a = refl
 has_map e r (u ∷ us) a = ap (λ o. e (r u) (r a) || o) (has_map e r us a)
 
+-- each relabelled value is equal to one of others
 covered_map :
     (e : Test) (r : Value → Value) (us vs : List Value) →
     list_all (has e (map r vs)) (map r us) ≡ list_all (has (λ x y. e (r x) (r y)) vs) us
@@ -67,6 +69,7 @@ covered_map e r (u ∷ us) vs = λ i. has_map e r vs u i && covered_map e r us v
 abbrev moved : List ℕ → List (Value × ℤ) → List (Value × ℤ)
 moved b es = map (λ w. (relabelled b w.0, w.1)) es
 
+-- the total of a relabelled value among them
 weights_map :
     (e : Test) (b : List ℕ) (ws : List (Value × ℤ)) (a : Value) →
     weight_of e (moved b ws) (relabelled b a)
@@ -96,6 +99,7 @@ module _
   abbrev E : ℕ → Test
   E q x y = are_equal t q (relabelled b x) (relabelled b y)
 
+  -- that is an equivalence
   E_is : (q : ℕ) → IsEquivalence (E q)
   E_is q = on_equiv (relabelled b) (eq-equivalence t q)
 
@@ -166,11 +170,13 @@ module _
 
   -- trits f on the left and g on the right, one where structures are alike
   module _ (f g : Place → ℕ) (same : (x y : Place) → IsLike x y → f x ≡ g y) where
+    -- equal values at a node have one trit, f on the left and g on the right
     same_at :
         (q : ℕ) → q < length t → (x y : Value) → D x ≡ true → D y ≡ true → E q x y ≡ true →
         f (thr (q, x)) ≡ g (thr (q, y))
     same_at q inside x y dx dy h = same (thr (q, x)) (thr (q, y)) (child_like q inside x y dx dy h)
 
+    -- and g on the left and f on the right
     back_at :
         (q : ℕ) → q < length t → (x y : Value) → D x ≡ true → D y ≡ true → E q x y ≡ true →
         g (thr (q, x)) ≡ f (thr (q, y))

@@ -7,6 +7,8 @@
 
 mod laws;
 mod modality;
+#[cfg(test)]
+mod tests;
 
 pub use laws::{equivalent_states_have_one_truth, formulas_hold_by_cases};
 pub use modality::{first_misfit, fits_modality};
