@@ -1,0 +1,4 @@
+pub mod Formulas
+pub mod Truth
+pub mod Ranges
+pub mod Laws

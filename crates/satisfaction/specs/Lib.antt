@@ -1,0 +1,3 @@
+pub mod Satisfaction
+pub mod Modalities
+pub mod Laws
