@@ -3,13 +3,13 @@
 ghost use Rattle.std.specs.Prelude.{◌≡◌, ◌<◌};
 
 use classes::{Equivalents, first_equivalents};
-use flat_files::read_flat;
 use outside::Steps;
 use std::alloc::{AllocError, Global};
 use std::marker::Brand;
 use std::process::Abort;
 use std::sync::ledger::{Blank, Ledger};
 use std::test::Fail;
+use structure_parser::read_file;
 use typing::Coalgebra;
 
 /// The longest file that is read.
@@ -38,16 +38,16 @@ fn listed(alloc: Global, found: &Equivalents) -> Result<String, AllocError> {
     Ok(text)
 }
 
-/// What is found for a file, as a text; a file that is not read has none. Plain rounds give the
-/// same classes.
+/// What is found for a file, as a text; a file that is not read has none. The slow program of the
+/// definition gives the same classes.
 fn told(rt: &impl Abort, alloc: Global, file: &[u8]) -> Result<String, AllocError> {
     if LONGEST < file.len() {
         return Ok(String::new(alloc));
     }
-    match read_flat(alloc, file) {
+    match read_file(alloc, file) {
         Ok(c) => {
             let found = from_zero::<Brand>(alloc, &c, Blank::new(1))?;
-            let plain = rounds::first_equivalents(alloc, &c)?;
+            let plain = plain::first_equivalents(alloc, &c.term, c.values.as_slice())?;
             assert!(rt; found.firsts.as_slice() == plain.as_slice());
             listed(alloc, &found)
         }
@@ -75,7 +75,56 @@ const SETS: &[(&str, &[u8], &str)] = &[
         b"P X\na: {c}\nb: {d}\nc: {}\nd: {}\n",
         "4 2 0 0 2 2",
     ),
+    (
+        "an automaton",
+        b"{f,n} x X^{a,b}\nq: (n, {a: p, b: r})\np: (n, {a: q, b: r})\nr: (f, {a: q, b: p})\n",
+        "9 12 0 0 2",
+    ),
+    (
+        "distributions that lump to one point",
+        b"D X\nq: {p: 0.5, r: 0.5}\np: {q: 0.4, r: 0.6}\nr: {r: 1}\n",
+        "3 5 0 0 0",
+    ),
+    (
+        "weights that cancel",
+        b"2 x Z^(X)\na: (0, {b: 1, c: -1, a: 1, d: -1})\nb: (1, {})\nc: (1, {})\nd: (0, {})\n",
+        "12 12 0 1 1 0",
+    ),
+    (
+        "an empty constant and no state in it",
+        b"{u,v}\na: u\nb: v\nc: u\n",
+        "3 0 0 1 0",
+    ),
 ];
+
+/// Files of which each legal history of smaller halves counts alike, and that count.
+const COUNTED: &[(&str, &[u8], u64)] = &[
+    (
+        "one splitter of a half, with one edge into it",
+        b"P X\na: {b}\nb: {a}\nc: {}\nd: {c, a}\n",
+        5,
+    ),
+    (
+        "one block at the start",
+        b"Z^(X)\na: {b: 1, c: -1}\nb: {}\nc: {}\n",
+        2,
+    ),
+    ("no state", b"P X\n", 0),
+];
+
+#[test]
+fn labels_are_counted_as_the_definition_says(rt: HostRuntime) -> Result<(), Fail> {
+    for (about, file, labels) in COUNTED {
+        match read_file(rt.alloc(), file) {
+            Ok(c) => {
+                let found = from_zero::<Brand>(rt.alloc(), &c, Blank::new(1))?;
+                assert_eq!(rt; found.labels, *labels, "{about}");
+            }
+            Err(_) => assert!(rt; false, "{about}"),
+        }
+    }
+    Ok(())
+}
 
 #[test]
 fn equivalent_states_have_their_first(rt: HostRuntime) -> Result<(), Fail> {

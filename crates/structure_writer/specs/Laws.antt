@@ -4,8 +4,11 @@
 -- FilesAreSpelled    == a text that spells a coalgebra, and is accepted as a file, denotes the same
 --                       term, names and fractions
 -- TextsAreReadBack   == so does the canonical text of a coalgebra, where it is accepted as a file
-use Rattle.std.specs.Prelude.{ℕ, List}
+-- TextsAreOfFractions == coalgebras with the same fractions have one canonical text
+use Rattle.std.specs.Prelude.{◌≡◌, ◌≤◌, ℕ, List, IsTrue}
+use Rattle.std.specs.List.{list_all}
 use Rattle.typing.specs.Contents.{Content}
+use Rattle.typing.specs.Fits.{fits}
 use Rattle.structure_parser.specs.Reads.{Reads}
 use Rattle.rescaling.specs.Rescaled.{SameFractions}
 use Rattle.structure_writer.specs.Text.{canonical}
@@ -26,3 +29,9 @@ FilesAreSpelled =
 abbrev pub TextsAreReadBack : Type 0
 TextsAreReadBack =
     (d e : Content) → IsWellFormed d → Reads (canonical d) e → SameFractions d e
+
+-- coalgebras with the same fractions have one canonical text
+abbrev pub TextsAreOfFractions : Type 0
+TextsAreOfFractions =
+    (d e : Content) → SameFractions d e → 1 ≤ d.denominator →
+    IsTrue (list_all (fits e.term 0) e.values) → canonical e ≡ canonical d

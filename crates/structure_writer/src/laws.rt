@@ -1,5 +1,7 @@
 //! Laws of the canonical text, each the contract of a function that does nothing.
-ghost use Rattle.structure_writer.specs.Laws.{TextsSpell, FilesAreSpelled, TextsAreReadBack};
+ghost use Rattle.structure_writer.specs.Laws.{TextsSpell, FilesAreSpelled, TextsAreReadBack, TextsAreOfFractions};
+
+use rescaling::lowest_terms_stay;
 
 /// The canonical text of a coalgebra spells it.
 pub fn texts_spell()
@@ -17,3 +19,10 @@ pub fn files_are_spelled()
 pub fn texts_are_read_back()
     ensures { TextsAreReadBack }
 {}
+
+/// Coalgebras with the same fractions have one canonical text.
+pub fn texts_are_of_fractions()
+    ensures { TextsAreOfFractions }
+{
+    lowest_terms_stay();
+}
