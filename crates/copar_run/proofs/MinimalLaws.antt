@@ -15,7 +15,6 @@ use Rattle.typing.specs.Stable.{IsStable, AreEquivalent, Refines}
 use Rattle.quotient_writer.specs.Blocks.{first_states}
 use Rattle.quotient_writer.specs.Quotient.{is_numbered}
 use Rattle.quotient_writer.specs.Laws.{QuotientsAreMinimal, MinimalSystemsAreTheirOwnQuotients}
-use Rattle.quotient_writer.proofs.ClassLaws.{count, labels-part, labels-join}
 use Rattle.structure_parser.specs.Reads.{Reads, IsNormalForm}
 use Rattle.structure_writer.specs.Text.{canonical}
 use Rattle.structure_writer.specs.Spelled.{Spells, IsWellFormed}
@@ -23,25 +22,6 @@ use Rattle.structure_writer.specs.Laws.{TextsSpell, TextsAreReadBack, TextsAreOf
 use Rattle.rescaling.specs.Rescaled.{SameFractions, rescaled}
 use Rattle.rescaling.specs.Laws.{RescalingKeepsStates, SameFractionsSameEquivalence}
 use Rattle.copar_run.specs.Minimal.{AreClasses, IsMinimised, IsMinimal}
-
--- numbers for the first equivalent states number the classes of equivalence
-pub are_classes : (c : Content) (firsts labels : List ℕ) → IsStable c.term c.values firsts
-    → ((s : List ℕ) → IsStable c.term c.values s → Refines s firsts)
-    → first_states labels ≡ firsts → IsTrue (is_numbered labels) → AreClasses c labels
-are_classes c firsts labels stable coarsest same numbered = record {
-  covers = count c.term c.values firsts stable coarsest labels same;
-  numbered = numbered;
-  alike = λ i j hi hj. (
-    λ e. (
-      hi,
-      hj,
-      firsts,
-      stable,
-      labels-part c.term c.values firsts stable coarsest labels same i j hi hj e,
-    ),
-    λ e. labels-join c.term c.values firsts stable coarsest labels same i j e,
-  );
-}
 
 -- where all normal forms are of values, they fit and are normal
 forms-fit : (l : ℕ) (t : Nodes) (fs : List Fitted) (vs : List Value)
@@ -51,8 +31,7 @@ forms-fit l t [] [] all = (refl, refl)
 forms-fit l t [] (v ∷ vs) all = absurd all
 forms-fit l t (f ∷ fs) [] all = absurd all
 forms-fit l t (f ∷ fs) (v ∷ vs) all =
-    let rest = forms-fit l t fs vs all.1 in
-    (
+    let rest = forms-fit l t fs vs all.1 in (
       and_from (fits t 0 v) (list_all (fits t 0) vs) all.0.fitting rest.0,
       and_from (is_normal t 0 v) (list_all (is_normal t 0) vs) all.0.normal rest.1,
     )

@@ -12,8 +12,8 @@ use classes::{Equivalents, first_equivalents};
 use command_line::Request;
 use outside::Steps;
 use quotient_writer::{
-    blocks_text, class_numbers, minimal_systems_are_their_own_quotients, quotient, quotient_text,
-    quotients_are_minimal,
+    blocks_text, class_numbers, first_equivalents_are_numbered,
+    minimal_systems_are_their_own_quotients, quotient, quotient_text, quotients_are_minimal,
 };
 use rescaling::{rescaling_keeps_form, same_fractions_same_equivalence};
 use std::alloc::{AllocError, Global};
@@ -55,6 +55,7 @@ fn classes<L: Ledger>(
         × IsCounted (content_of c.now) rise) }
     ensures grows { steps.old ≤ steps.new }
 {
+    first_equivalents_are_numbered();
     let found = first_equivalents(alloc, c, steps)?;
     let Equivalents { firsts, .. } = found;
     class_numbers(alloc, firsts.as_slice())

@@ -96,7 +96,11 @@ const NODES: &[(&str, &[u8], &str)] = &[
         b"1 + {u,v} x X\na: inj 0 0\nb: inj 1 (u, a)\nc: inj 1 (u, d)\nd: inj 0 0\n",
         "0 0 0 0 1 2 2 1 3 3 10 8 0-4 1-5 2-6 3-7 5-8 5-0 6-9 6-3",
     ),
-    ("a state for a structure", b"X\na: b\nb: a\n", "0 0 2 2 0-1 1-0"),
+    (
+        "a state for a structure",
+        b"X\na: b\nb: a\n",
+        "0 0 2 2 0-1 1-0",
+    ),
 ];
 
 #[test]

@@ -1,3 +1,4 @@
 pub mod Bounded
 pub mod EqualityAt
 pub mod PairLaws
+mod InBounds

@@ -15,6 +15,6 @@ mod stability;
 mod tests;
 
 pub use equality::are_equal;
-pub use rounds::first_equivalents;
+pub use rounds::{classes_of, first_equivalents};
 pub use soundness::{are_sound, is_sound};
 pub use stability::is_stable;

@@ -11,7 +11,7 @@ use crate::equality::are_equal;
 use crate::stability::all_relabelled;
 use functor_terms::Term;
 use std::alloc::{AllocError, Global};
-use typing::Value;
+use typing::{Coalgebra, Value};
 
 /// For each state the first state that is equivalent to it.
 pub fn first_equivalents(
@@ -37,6 +37,17 @@ pub fn first_equivalents(
         }
         labels = next;
     }
+}
+
+/// The same for a coalgebra.
+pub fn classes_of(alloc: Global, c: &Coalgebra) -> Result<Vec<u32>, AllocError>
+    ensures stable { IfOk result (λ firsts. IsStable c.now.term c.now.values.items firsts.items) }
+    ensures coarsest { IfOk result (λ firsts. (s : List ℕ) →
+        IsStable c.now.term c.now.values.items s → Refines s firsts.items) }
+    ensures first { IfOk result (λ firsts. EachIndex c.now.values.items (λ i.
+        IsFirst c.now.term c.now.values.items i (slice_index firsts.items i))) }
+{
+    first_equivalents(alloc, &c.term, c.values.as_slice())
 }
 
 /// For each value the place of the first that is equal to it.

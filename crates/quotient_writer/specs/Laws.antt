@@ -2,18 +2,19 @@
 --
 -- NumberedByFirstStates        == what it is that classes are numbered by their first states
 -- PickedAreFirstStates         == what is picked stands at the first states of the classes
+-- FirstEquivalentsAreNumbered  == numbers for the first equivalent states number the classes
 -- NamesAreDetermined .. MinimalSystemsAreTheirOwnQuotients
 --                              == there is one quotient; it is minimal; a minimal system is its own
-use Rattle.std.specs.Prelude.{◌≡◌, ◌↔◌, ℕ, ◌<◌, List, length, slice_get, slice_index, IsTrue}
+use Rattle.std.specs.Prelude.{◌≡◌, ◌↔◌, ℕ, ◌<◌, List, length, slice_get, slice_index, EachIndex, IsTrue}
 use Rattle.std.specs.List.{list_all}
 use Rattle.functor_terms.specs.Terms.{Nodes}
 use Rattle.typing.specs.declared.value.Value.{Value}
 use Rattle.typing.specs.Values.{states_below}
 use Rattle.typing.specs.Fits.{fits}
 use Rattle.typing.specs.Order.{is_normal}
-use Rattle.typing.specs.Stable.{AreEquivalent}
+use Rattle.typing.specs.Stable.{IsStable, IsFirst, Refines, AreEquivalent}
 use Rattle.quotient_writer.specs.Quotient.{is_numbered, picked, IsQuotient}
-use Rattle.quotient_writer.specs.Blocks.{first_state}
+use Rattle.quotient_writer.specs.Blocks.{AreFirsts, first_state, first_states}
 
 -- classes are numbered by their first states exactly if, at each state, each class of a smaller number
 -- has begun before
@@ -27,6 +28,35 @@ abbrev pub PickedAreFirstStates : Type 0 → Type 0
 PickedAreFirstStates X =
     (b : List ℕ) (xs : List X) → length b ≡ length xs → IsTrue (is_numbered b) → (k : ℕ) →
     slice_get (picked b xs) k ≡ slice_get xs (first_state b k)
+
+-- a stable list that every stable list refines, which has for each state the first equivalent one
+pub record AreFirstEquivalents (t : Nodes) (values : List Value) (firsts : List ℕ) : Type 0 where
+  pub stable : IsStable t values firsts
+  pub coarsest : (s : List ℕ) → IsStable t values s → Refines s firsts
+  pub first : EachIndex values (λ i. IsFirst t values i (slice_index firsts i))
+
+-- a number for each state; states with one number have structures that are equal under the numbers,
+-- and two states have one number exactly if they are equivalent
+pub record AreClassNumbers (t : Nodes) (values : List Value) (labels : List ℕ) : Type 0 where
+  pub covers : length labels ≡ length values
+  pub stable : IsStable t values labels
+  pub alike :
+      (i j : ℕ) → i < length values → j < length values →
+      (slice_index labels i ≡ slice_index labels j) ↔ AreEquivalent t values i j
+
+-- first equivalent states are not behind their states, and are given for themselves
+abbrev pub FirstEquivalentsAreFirsts : Type 0
+FirstEquivalentsAreFirsts =
+    (t : Nodes) (values : List Value) (firsts : List ℕ) → AreFirstEquivalents t values firsts →
+    AreFirsts firsts
+
+-- numbers of which these are the first states number the classes of equivalence
+abbrev pub FirstEquivalentsAreNumbered : Type 0
+FirstEquivalentsAreNumbered =
+    (t : Nodes) (values : List Value) (firsts labels : List ℕ) →
+    IsTrue (list_all (states_below (length values)) values) →
+    AreFirstEquivalents t values firsts → first_states labels ≡ firsts →
+    AreClassNumbers t values labels
 
 -- one name and one label for each state, and the labels number classes by their first states
 pub record AreLabelled (names : List (List ℕ)) (values : List Value) (b : List ℕ) : Type 0 where

@@ -1,7 +1,7 @@
 //! Laws of quotients, each the contract of a function that does nothing.
 ghost use Rattle.std.specs.Prelude.{ℕ, List};
 ghost use Rattle.typing.specs.declared.value.Value.{Value};
-ghost use Rattle.quotient_writer.specs.Laws.{NumberedByFirstStates, PickedAreFirstStates, NamesAreDetermined, ValuesAreDetermined, QuotientsAreMinimal, MinimalSystemsAreTheirOwnQuotients};
+ghost use Rattle.quotient_writer.specs.Laws.{NumberedByFirstStates, PickedAreFirstStates, FirstEquivalentsAreFirsts, FirstEquivalentsAreNumbered, NamesAreDetermined, ValuesAreDetermined, QuotientsAreMinimal, MinimalSystemsAreTheirOwnQuotients};
 
 /// Classes are numbered by their first states exactly if, at each state, each class of a smaller number
 /// has begun before.
@@ -13,6 +13,13 @@ pub fn classes_are_numbered_by_first_states()
 pub fn first_states_are_picked()
     ensures names { PickedAreFirstStates (List ℕ) }
     ensures values { PickedAreFirstStates Value }
+{}
+
+/// First equivalent states are given for themselves, and numbers of which they are the first states
+/// number the classes of equivalence, and are stable.
+pub fn first_equivalents_are_numbered()
+    ensures firsts { FirstEquivalentsAreFirsts }
+    ensures numbered { FirstEquivalentsAreNumbered }
 {}
 
 /// Two quotients by one list have the same names and values.

@@ -17,7 +17,8 @@ mod text;
 
 pub use block_list::blocks_text;
 pub use laws::{
-    classes_are_numbered_by_first_states, first_states_are_picked, minimal_systems_are_their_own_quotients, quotients_are_determined, quotients_are_minimal,
+    classes_are_numbered_by_first_states, first_equivalents_are_numbered, first_states_are_picked,
+    minimal_systems_are_their_own_quotients, quotients_are_determined, quotients_are_minimal,
 };
 pub use making::quotient;
 pub use numbering::class_numbers;

@@ -5,7 +5,7 @@ ghost use Rattle.std.specs.Prelude.{◌≤◌, ◌<◌, ◌^◌, length};
 use crate::families::FAMILIES;
 use crate::tests::{by_thousands, run_in};
 use copar_run::Status;
-use plain::first_equivalents;
+use plain::classes_of;
 use std::alloc::{AllocError, Global};
 use std::test::Fail;
 use structure_parser::read_file;
@@ -26,12 +26,7 @@ fn below(seed: &mut u64, k: u8) -> u8
 }
 
 /// Puts a structure of this form last, over so many states.
-fn push_form(
-    text: &mut Vec<u8>,
-    form: &str,
-    states: u8,
-    seed: &mut u64,
-) -> Result<(), AllocError>
+fn push_form(text: &mut Vec<u8>, form: &str, states: u8, seed: &mut u64) -> Result<(), AllocError>
     requires { 0 < states }
 {
     for byte in form.as_bytes() {
@@ -71,7 +66,7 @@ fn generated(
 
 /// The block list by the slow program of the definition.
 fn plain_blocks(alloc: Global, c: &Coalgebra) -> Result<Vec<u8>, AllocError> {
-    let firsts = first_equivalents(alloc, &c.term, c.values.as_slice())?;
+    let firsts = classes_of(alloc, c)?;
     let mut text = Vec::new(alloc);
     for i in 0..c.names.len() {
         text.extend_from_slice(c.names.name(i))?;
@@ -103,7 +98,11 @@ fn blocks_are_those_of_the_slow_program(rt: HostRuntime) -> Result<(), Fail> {
             match read_file(alloc, &file) {
                 Ok(c) => {
                     let blocks = plain_blocks(alloc, &c)?;
-                    assert_eq!(rt; seen.out.bytes(), blocks.as_slice(), "{functor}, file {number}");
+                    assert_eq!(rt;
+                        seen.out.bytes(),
+                        blocks.as_slice(),
+                        "{functor}, file {number}"
+                    );
                 }
                 Err(_) => assert!(rt; false, "{functor}, file {number}"),
             }
@@ -125,7 +124,11 @@ fn minimising_twice_prints_the_same_bytes(rt: HostRuntime) -> Result<(), Fail> {
             let printed = by_thousands(alloc, once.out.bytes(), &[])?;
             let twice = run_in(alloc, "minimise", printed, &[], &[])?;
             assert_eq!(rt; twice.status, Status::Done, "{functor}, file {number}");
-            assert_eq!(rt; twice.out.bytes(), once.out.bytes(), "{functor}, file {number}");
+            assert_eq!(rt;
+                twice.out.bytes(),
+                once.out.bytes(),
+                "{functor}, file {number}"
+            );
         }
     }
     Ok(())

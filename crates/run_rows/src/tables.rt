@@ -53,11 +53,7 @@ pub(crate) const LISTED: &[(&str, &[u8], &[u8])] = &[
     ),
     ("distributions, and no state", b"D X\n", b""),
     ("parentheses", b"(P (X))\na: {a}\n", b"a a\n"),
-    (
-        "an automaton",
-        AUTOMATON,
-        b"q q\np q\nr r\n",
-    ),
+    ("an automaton", AUTOMATON, b"q q\np q\nr r\n"),
     ("a chain that lumps to a point", CHAIN, b"q q\np q\nr q\n"),
     (
         "weights that cancel",
@@ -85,7 +81,11 @@ pub(crate) const LISTED: &[(&str, &[u8], &[u8])] = &[
         b"N x X\na: (007, a)\nb: (7, a)\nc: (8, a)\n",
         b"a a\nb a\nc c\n",
     ),
-    ("a machine for drinks", DRINKS, b"idle idle\nready ready\nserved idle\nidle2 idle\nready2 ready\nbroken broken\n"),
+    (
+        "a machine for drinks",
+        DRINKS,
+        b"idle idle\nready ready\nserved idle\nidle2 idle\nready2 ready\nbroken broken\n",
+    ),
 ];
 
 const AUTOMATON: &[u8] =
@@ -144,7 +144,11 @@ pub(crate) const UNFORMED: &[(&str, &[u8], u32)] = &[
     ("an index of letters", b"1 + X\na: inj x a\n", 2),
     ("empty parentheses", b"2 x X\na: ()\n", 2),
     ("a misfit, and later no line", b"P X\na: {zz}\nb: {", 3),
-    ("a weight over its bound, and later no line", b"D X\na: {a: 1/2199023255552}\nb\n", 3),
+    (
+        "a weight over its bound, and later no line",
+        b"D X\na: {a: 1/2199023255552}\nb\n",
+        3,
+    ),
 ];
 
 /// Files that do not fit, with the line and the kind that are told.
@@ -195,41 +199,126 @@ pub(crate) const MISFITS: &[(&str, &[u8], u32, TypeKind)] = &[
         UNKNOWN,
     ),
     ("another case", b"P X\na: {A}\n", 2, UNKNOWN),
-    ("parentheses for braces", b"P X\na: (a)\n", 2, TypeKind::WrongShape),
-    ("a weight in a set", b"P X\na: {a: 1}\n", 2, TypeKind::WrongShape),
-    ("a set in a set of states", b"P X\na: {{}}\n", 2, TypeKind::WrongShape),
-    ("a distribution without a weight", b"D X\na: {zz}\n", 2, TypeKind::WrongShape),
+    (
+        "parentheses for braces",
+        b"P X\na: (a)\n",
+        2,
+        TypeKind::WrongShape,
+    ),
+    (
+        "a weight in a set",
+        b"P X\na: {a: 1}\n",
+        2,
+        TypeKind::WrongShape,
+    ),
+    (
+        "a set in a set of states",
+        b"P X\na: {{}}\n",
+        2,
+        TypeKind::WrongShape,
+    ),
+    (
+        "a distribution without a weight",
+        b"D X\na: {zz}\n",
+        2,
+        TypeKind::WrongShape,
+    ),
     (
         "no state, and later a misfit of another kind",
         b"P X\na: {zz}\nb: (a)\n",
         2,
         UNKNOWN,
     ),
-    ("one part for two", b"2 x X\na: (0)\n", 2, TypeKind::WrongShape),
-    ("three parts for two", b"2 x X\na: (0, a, a)\n", 2, TypeKind::WrongCount),
-    ("a number that is no label", b"2 x X\na: (2, a)\n", 2, TypeKind::NotALabel),
-    ("a word that is no label", b"{f,n} x X\na: (g, a)\n", 2, TypeKind::NotALabel),
-    ("a label without an entry", b"X^2\na: {0: a}\n", 2, TypeKind::MissingKey),
+    (
+        "one part for two",
+        b"2 x X\na: (0)\n",
+        2,
+        TypeKind::WrongShape,
+    ),
+    (
+        "three parts for two",
+        b"2 x X\na: (0, a, a)\n",
+        2,
+        TypeKind::WrongCount,
+    ),
+    (
+        "a number that is no label",
+        b"2 x X\na: (2, a)\n",
+        2,
+        TypeKind::NotALabel,
+    ),
+    (
+        "a word that is no label",
+        b"{f,n} x X\na: (g, a)\n",
+        2,
+        TypeKind::NotALabel,
+    ),
+    (
+        "a label without an entry",
+        b"X^2\na: {0: a}\n",
+        2,
+        TypeKind::MissingKey,
+    ),
     (
         "a label with two entries",
         b"X^2\na: {0: a, 0: a, 1: a}\n",
         2,
         TypeKind::RepeatedKey,
     ),
-    ("an index past the parts", b"1 + X\na: inj 2 a\n", 2, TypeKind::BadIndex),
-    ("a bag with a negative weight", b"B X\na: {a: -1}\n", 2, TypeKind::Negative),
+    (
+        "an index past the parts",
+        b"1 + X\na: inj 2 a\n",
+        2,
+        TypeKind::BadIndex,
+    ),
+    (
+        "a bag with a negative weight",
+        b"B X\na: {a: -1}\n",
+        2,
+        TypeKind::Negative,
+    ),
     (
         "a bag with a negative weight over its bound",
         b"B X\na: {a: -2199023255552}\n",
         2,
         TypeKind::Negative,
     ),
-    ("a bag with a fraction", b"B X\na: {a: 1/2}\n", 2, TypeKind::NotANumber),
-    ("whole weights without one", b"Z^(X)\na: {a}\n", 2, TypeKind::WrongShape),
-    ("a denominator of 0", b"Z^(X)\na: {a: 1/0}\n", 2, TypeKind::NotANumber),
-    ("a point without a digit before it", b"Q^(X)\na: {a: .5}\n", 2, TypeKind::NotANumber),
-    ("an exponent", b"Q^(X)\na: {a: 1e3}\n", 2, TypeKind::NotANumber),
-    ("a sign in a whole number", b"N x X\na: (-1, a)\n", 2, TypeKind::NotALabel),
+    (
+        "a bag with a fraction",
+        b"B X\na: {a: 1/2}\n",
+        2,
+        TypeKind::NotANumber,
+    ),
+    (
+        "whole weights without one",
+        b"Z^(X)\na: {a}\n",
+        2,
+        TypeKind::WrongShape,
+    ),
+    (
+        "a denominator of 0",
+        b"Z^(X)\na: {a: 1/0}\n",
+        2,
+        TypeKind::NotANumber,
+    ),
+    (
+        "a point without a digit before it",
+        b"Q^(X)\na: {a: .5}\n",
+        2,
+        TypeKind::NotANumber,
+    ),
+    (
+        "an exponent",
+        b"Q^(X)\na: {a: 1e3}\n",
+        2,
+        TypeKind::NotANumber,
+    ),
+    (
+        "a sign in a whole number",
+        b"N x X\na: (-1, a)\n",
+        2,
+        TypeKind::NotALabel,
+    ),
     (
         "a sum that is short, and later no state",
         b"D X\na: {a: 1/2}\nb: {zz: 1}\n",
@@ -282,8 +371,16 @@ pub(crate) const PAST_BOUND: &[(&str, &[u8], u32)] = &[
 pub(crate) const SHORT: &[(&str, &[u8], u32)] = &[
     ("five sixths", b"D X\na: {a: 1/2, b: 1/3}\nb: {b: 1}\n", 2),
     ("no element", b"D X\na: {}\n", 2),
-    ("a half twice and a third", b"D X\na: {a: 1/2, a: 1/2}\nb: {a: 1/2, b: 1/2, a: 1/3}\n", 3),
-    ("an inner one", b"P D X\na: {{a: 1}, {a: 999999999999/1000000000000}}\n", 2),
+    (
+        "a half twice and a third",
+        b"D X\na: {a: 1/2, a: 1/2}\nb: {a: 1/2, b: 1/2, a: 1/3}\n",
+        3,
+    ),
+    (
+        "an inner one",
+        b"P D X\na: {{a: 1}, {a: 999999999999/1000000000000}}\n",
+        2,
+    ),
     ("a weight of 0 alone", b"2 x D X\na: (0, {a: 0})\n", 2),
 ];
 
@@ -358,7 +455,11 @@ pub(crate) const MINIMISED: &[(&str, &[u8], &[u8])] = &[
         b"Z^(X)\na: {a: 1099511627776}\n",
         b"Z^(X)\na: {a: 1099511627776}\n",
     ),
-    ("a machine for drinks", DRINKS, b"P ({coin,tea} x D X)\nidle: {(coin, {idle: 1/10, ready: 9/10})}\nready: {(tea, {idle: 1})}\nbroken: {}\n"),
+    (
+        "a machine for drinks",
+        DRINKS,
+        b"P ({coin,tea} x D X)\nidle: {(coin, {idle: 1/10, ready: 9/10})}\nready: {(tea, {idle: 1})}\nbroken: {}\n",
+    ),
     (
         "a sum",
         b"1 + {u,v} x X\na: inj 0 0\nb: inj 1 (u, a)\nc: inj 1 (u, d)\nd: (inj 00 (0))\n",

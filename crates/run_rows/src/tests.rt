@@ -84,7 +84,11 @@ fn by_bytes(alloc: Global, file: &[u8]) -> Result<MemFolder, AllocError> {
 }
 
 /// A folder with this file `F`, of which at most 1,000 bytes are read at a time.
-pub(crate) fn by_thousands(alloc: Global, file: &[u8], failing: &[u64]) -> Result<MemFolder, AllocError> {
+pub(crate) fn by_thousands(
+    alloc: Global,
+    file: &[u8],
+    failing: &[u64],
+) -> Result<MemFolder, AllocError> {
     let mut folder = MemFolder::new(alloc, 1000, failing)?;
     folder.add("F", file)?;
     Ok(folder)
@@ -160,7 +164,15 @@ fn each_fault_is_told_with_its_line(rt: HostRuntime) -> Result<(), Fail> {
 #[test]
 fn a_quotient_may_be_no_file_within_the_bounds(rt: HostRuntime) -> Result<(), Fail> {
     let (file, out) = MERGED;
-    ends(&rt, rt.alloc(), "minimise", "merged", file, Status::Done, out)?;
+    ends(
+        &rt,
+        rt.alloc(),
+        "minimise",
+        "merged",
+        file,
+        Status::Done,
+        out,
+    )?;
     Ok(())
 }
 

@@ -169,16 +169,16 @@ abbrev pub told : Nodes → List (List ℕ) → SoFar → List Row → Told
 told t names so_far rows =
     told_of so_far.stage so_far.kept.items rows (typed_from t names so_far.fresh rows)
 
+-- the same at the front of a file, where so many rows have new heads
+abbrev pub told_all : Nodes → List (List ℕ) → ℕ → List Row → Told
+told_all t names k rows = told_of (stage.Fitting 1) [] rows (typed_from t names k rows)
+
 -- with a row more, whose tree is found so, all is told that was told before
 abbrev pub TellsOn : SoFar → ℕ → Found Fitted → SoFar → Type 0
 TellsOn old line found new =
     (t : Nodes) (names : List (List ℕ)) (head : List ℕ) (tree : Tree) (rest : List Row) →
     row_fit t names (old.fresh == 0) tree ≡ found →
     told t names new rest ≡ told t names old (row line head tree ∷ rest)
-
--- the same at the front of a file, where so many rows have new heads
-abbrev pub told_all : Nodes → List (List ℕ) → ℕ → List Row → Told
-told_all t names k rows = told_of (stage.Fitting 1) [] rows (typed_from t names k rows)
 
 -- the fitted tree is ready to be scaled, where n states have names
 pub record IsReady (t : Nodes) (n : ℕ) (k : Kept) : Type 0 where

@@ -40,7 +40,7 @@ use Rattle.structure_writer.proofs.Free.{fitting-free}
 
 -- ---- one reading of rows
 
-heads_same : (x y : Numbered) (xs ys : List Numbered)
+pub heads_same : (x y : Numbered) (xs ys : List Numbered)
     → ◌≡◌ {A = List Numbered} (x ∷ xs) (y ∷ ys) → (x ≡ y) × (xs ≡ ys)
 heads_same x y xs ys e = (cc, cc)
 
@@ -62,7 +62,7 @@ rows_same (line ∷ lines) (r ∷ rs) (s ∷ ss) a b =
     λ i. row_same line r s a.0 b.0 i ∷ rows_same lines rs ss a.1 b.1 i
 
 -- a text has one term and one list of rows at most
-one_rows : (text : List ℕ) (t u : Nodes) (rs ss : List Row) → AreRows text t rs
+pub one_rows : (text : List ℕ) (t u : Nodes) (rs ss : List Row) → AreRows text t rs
     → AreRows text u ss → (t ≡ u) × (rs ≡ ss)
 one_rows text t u rs ss a b =
     let same = heads_same a.functor b.functor a.others b.others (sym a.lines ∙ b.lines) in (
@@ -90,12 +90,12 @@ new_word (x ∷ before) w rest d =
     in_all [] h = h.0
     in_all (y ∷ ys) h = in_all ys h.1
 
-no_place : (before : List (List ℕ)) (w : List ℕ) (rest : List (List ℕ))
+pub no_place : (before : List (List ℕ)) (w : List ℕ) (rest : List (List ℕ))
     → IsDistinct is_same_word (before ++ w ∷ rest) → is_some (place_of w before) ≡ false
 no_place before w rest d = place-any (is_same_word w) before ∙ new_word before w rest d
 
 -- where heads are distinct, all of them are names
-names_are : (before : List (List ℕ)) (rows : List Row)
+pub names_are : (before : List (List ℕ)) (rows : List Row)
     → IsDistinct is_same_word (before ++ heads_of rows)
     → names_with before rows ≡ before ++ heads_of rows
 names_are before [] d = sym (append-nil before)
@@ -117,7 +117,7 @@ typed_never : (fault : ℕ × TypeKind) (ys : List Fitted) → ◌≡◌ {A = Ty
 typed_never fault ys e = cc
 
 -- the tree of a row fits, as this fitted tree
-abbrev RowFits : Nodes → List (List ℕ) → Row → Fitted → Type 0
+abbrev pub RowFits : Nodes → List (List ℕ) → Row → Fitted → Type 0
 RowFits t names r f = fitting t names 0 r.tree ≡ Ok f
 
 -- where all rows are typed, each tree fits
@@ -181,7 +181,7 @@ accepted t rows l fs e = by (typed t (names_of rows) [] rows) refl e
 -- ---- bounds
 
 -- no bound is passed, and m is the least common multiple of l and all denominators
-record AreWithin (l m : ℕ) (fs : List Fitted) : Type 0 where
+pub record AreWithin (l m : ℕ) (fs : List Fitted) : Type 0 where
   pub first : l ∣ m
   pub positive : 1 ≤ m
   pub none_over : AllByRecursion (λ f. over_bound f ≡ false) fs
@@ -204,7 +204,7 @@ all_trans j m (q ∷ qs) h all = (dvd_trans q all.0 h, all_trans j m qs h all.1)
 abbrev joined : ℕ → Fitted → ℕ
 joined l f = common_multiple l (denominators f)
 
-bounded_all : (t : Nodes) (names : List (List ℕ)) (l m : ℕ) (rows : List Row) (fs : List Fitted)
+pub bounded_all : (t : Nodes) (names : List (List ℕ)) (l m : ℕ) (rows : List Row) (fs : List Fitted)
     → 1 ≤ l → AllZip (RowFits t names) rows fs → bounded l rows fs ≡ Ok m → AreWithin l m fs
 bounded_all t names l m [] [] some fit e =
     let same : l ≡ m = number_same l m e in
@@ -254,7 +254,7 @@ fitted_same : (f g : Fitted) → ◌≡◌ {A = Found Fitted} (Ok f) (Ok g) → 
 fitted_same f g e = cc
 
 -- what rows are fitted to within the bounds is what they denote without them
-same_fitted : (t : Nodes) (names : List (List ℕ)) (rows : List Row) (fs gs : List Fitted)
+pub same_fitted : (t : Nodes) (names : List (List ℕ)) (rows : List Row) (fs gs : List Fitted)
     → AllZip (RowFits t names) rows fs → AllByRecursion (λ f. over_bound f ≡ false) fs
     → AllZip (Denotes t names) rows gs → fs ≡ gs
 same_fitted t names [] [] [] a over b = refl
@@ -295,7 +295,7 @@ same_values t names k l n some is (r ∷ rows) (f ∷ fs) (u ∷ us) (v ∷ vs) 
     λ i. first i ∷ same_values t names k l n some is rows fs us vs a.1 over.1 m.1 b.1 c.1 i
 
 -- a factor of a number above 0 is above 0
-some_factor : (k l n : ℕ) → k * l ≡ n → 1 ≤ n → 1 ≤ k
+pub some_factor : (k l n : ℕ) → k * l ≡ n → 1 ≤ n → 1 ≤ k
 some_factor zero l n e h = absurd (omega (arith, sym (zero-mul l) ∙ e, h))
 some_factor (suc k) l n e h = omega arith
 

@@ -97,6 +97,11 @@ heads_are n (name ∷ names) [] l = absurd (omega (arith, l))
 heads_are n (name ∷ names) (u ∷ us) l =
     ap (λ rest. name ∷ rest) (heads_are (n + 1) names us (omega (arith, l)))
 
+-- the text spells the coalgebra, and its values are what the trees denote, as they stand
+pub record IsExact (text : List ℕ) (c : Content) : Type 0 where
+  pub spells : Spells text c
+  pub back : AllZip (λ f v. scaled c.denominator c.term 0 f ≡ v) spells.fitted c.values
+
 module _ (c : Content) (well : IsWellFormed c) where
   abbrev w : Write
   w = text_at c.denominator c.names c.term 0
@@ -204,8 +209,13 @@ module _ (c : Content) (well : IsWellFormed c) where
         each_value vs all.1 p.1 q.1,
       )
 
-  pub text-spells : Spells (canonical c) c
-  text-spells =
+  each_back : (vs : List Value) (all : AllByRecursion Written vs)
+      → AllZip (λ f v. scaled c.denominator c.term 0 f ≡ v) (fitted_of vs all) vs
+  each_back [] all = tt
+  each_back (v ∷ vs) all = (all.0.back, each_back vs all.1)
+
+  pub text-exact : IsExact (canonical c) c
+  text-exact =
       let all = each_written c.values well.fitting well.weighted well.in_range well.in_bounds in
       let clean = term-clean c.term well.term in
       let lines : List ℕ = state_lines w c.names c.values in
@@ -213,24 +223,31 @@ module _ (c : Content) (well : IsWellFormed c) where
       ap is_skipped (sym (append-nil (text_of_term c.term)))
       ∙ clean-unskipped (text_of_term c.term) [] clean in
       record {
-        rows = rows_from 2 c.names (trees_of c.values all);
-        fitted = fitted_of c.values all;
-        spelled =
+        spells =
             record {
-              functor = numbered_line 1 (text_of_term c.term);
-              others = lines_from 2 lines;
-              lines =
-                  ap lines_of (append_assoc (text_of_term c.term) (codes "\n") lines)
-                  ∙ first_line 1 (text_of_term c.term) lines clean.plain first;
-              spelled = texts_spell c.term well.term;
-              each = each_row 2 c.names c.values well.names.each all well.one_each;
+              rows = rows_from 2 c.names (trees_of c.values all);
+              fitted = fitted_of c.values all;
+              spelled =
+                  record {
+                    functor = numbered_line 1 (text_of_term c.term);
+                    others = lines_from 2 lines;
+                    lines =
+                        ap lines_of (append_assoc (text_of_term c.term) (codes "\n") lines)
+                        ∙ first_line 1 (text_of_term c.term) lines clean.plain first;
+                    spelled = texts_spell c.term well.term;
+                    each = each_row 2 c.names c.values well.names.each all well.one_each;
+                  };
+              same_names =
+                  sym (heads_are 2 c.names (trees_of c.values all)
+                  (trees_count c.values all ∙ well.one_each));
+              names = well.names;
+              positive = well.positive;
+              denoted = each_denoted 2 c.names c.values all well.one_each;
+              multiple = each_multiple c.values all;
+              values = each_value c.values all well.fitting well.normal;
             };
-        same_names =
-            sym (heads_are 2 c.names (trees_of c.values all)
-            (trees_count c.values all ∙ well.one_each));
-        names = well.names;
-        positive = well.positive;
-        denoted = each_denoted 2 c.names c.values all well.one_each;
-        multiple = each_multiple c.values all;
-        values = each_value c.values all well.fitting well.normal;
+        back = each_back c.values all;
       }
+
+  pub text-spells : Spells (canonical c) c
+  text-spells = text-exact.spells

@@ -1,5 +1,5 @@
 //! Laws of the canonical text, each the contract of a function that does nothing.
-ghost use Rattle.structure_writer.specs.Laws.{TextsSpell, FilesAreSpelled, TextsAreReadBack, TextsAreOfFractions};
+ghost use Rattle.structure_writer.specs.Laws.{TextsSpell, FilesAreSpelled, TextsAreReadBack, OnlyBoundsRefuse, TextsAreOfFractions};
 
 use rescaling::lowest_terms_stay;
 
@@ -18,6 +18,12 @@ pub fn files_are_spelled()
 /// same term, names and fractions.
 pub fn texts_are_read_back()
     ensures { TextsAreReadBack }
+{}
+
+/// The canonical text of a coalgebra that is not too long has no fault as a file, but that a weight
+/// or the common denominator may be past its bound.
+pub fn only_bounds_refuse_texts()
+    ensures { OnlyBoundsRefuse }
 {}
 
 /// Coalgebras with the same fractions have one canonical text.

@@ -15,5 +15,8 @@ mod weight;
 mod words;
 mod writing;
 
-pub use laws::{files_are_spelled, texts_are_of_fractions, texts_are_read_back, texts_spell};
+pub use laws::{
+    files_are_spelled, only_bounds_refuse_texts, texts_are_of_fractions, texts_are_read_back,
+    texts_spell,
+};
 pub use writing::write_file;

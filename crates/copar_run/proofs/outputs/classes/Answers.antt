@@ -5,11 +5,10 @@ use Rattle.typing.specs.Values.{states_below}
 use Rattle.typing.specs.Stable.{IsStable}
 use Rattle.quotient_writer.specs.Blocks.{AreFirsts, first_states}
 use Rattle.quotient_writer.specs.Quotient.{is_numbered}
-use Rattle.quotient_writer.proofs.ClassLaws.{are_firsts, labels-stable}
+use Rattle.quotient_writer.specs.Laws.{AreFirstEquivalents}
 use Rattle.copar_run.specs.Blocks.{AreBlocks}
 use Rattle.copar_run.specs.Minimal.{AreClasses}
 use Rattle.copar_run.proofs.BlockLaws.{are_blocks}
-use Rattle.copar_run.proofs.MinimalLaws.{are_classes}
 use Rattle.copar_run.proofs.OnOk.{if_both}
 use Rattle.copar_run.proofs.outputs.classes.Goals as goal
 
@@ -17,30 +16,52 @@ pub class_numbers-requires-clause-firsts : goal.class_numbers-requires-clause-fi
 class_numbers-requires-clause-firsts g c =
     let is = c.in_ok-found in
     subst AreFirsts (sym c.as_slice.ensures.value)
-    (are_firsts c.args.c.now.term c.args.c.now.values.items is.found.firsts.items is.ensures.stable
-    is.ensures.coarsest is.ensures.first)
+    (c.first_equivalents_are_numbered.ensures.firsts c.args.c.now.term c.args.c.now.values.items
+    is.found.firsts.items
+    (record {
+      stable = is.ensures.stable;
+      coarsest = is.ensures.coarsest;
+      first = is.ensures.first;
+    }))
 
 pub returns-clause-classes : goal.returns-clause-classes
 returns-clause-classes g c =
     let is = c.in_ok-found in
+    let source = c.args.c.now in
+    let are : AreFirstEquivalents source.term source.values.items is.found.firsts.items = record {
+      stable = is.ensures.stable;
+      coarsest = is.ensures.coarsest;
+      first = is.ensures.first;
+    } in
     if_both c.class_numbers.result (λ labels. IsTrue (is_numbered labels.items))
     (λ labels. first_states labels.items ≡ c.as_slice.result.now)
-    (λ labels. AreClasses (content_of c.args.c.now) labels.items)
-    (λ labels numbered same. are_classes (content_of c.args.c.now) is.found.firsts.items labels.items
-    is.ensures.stable is.ensures.coarsest (same ∙ c.as_slice.ensures.value) numbered)
+    (λ labels. AreClasses (content_of source) labels.items)
+    (λ labels numbered same.
+    (let known = c.first_equivalents_are_numbered.ensures.numbered source.term
+    source.values.items is.found.firsts.items labels.items
+    (subst (λ n. IsTrue (list_all (states_below n) source.values.items)) (sym source.one_each)
+    source.in_range)
+    are (same ∙ c.as_slice.ensures.value) in
+    record { covers = known.covers; numbered = numbered; alike = known.alike }))
     c.class_numbers.ensures.numbered c.class_numbers.ensures.same_classes
 
 pub returns-clause-stable : goal.returns-clause-stable
 returns-clause-stable g c =
     let is = c.in_ok-found in
     let source = c.args.c.now in
+    let are : AreFirstEquivalents source.term source.values.items is.found.firsts.items = record {
+      stable = is.ensures.stable;
+      coarsest = is.ensures.coarsest;
+      first = is.ensures.first;
+    } in
     if_both c.class_numbers.result (λ labels. IsTrue (is_numbered labels.items))
     (λ labels. first_states labels.items ≡ c.as_slice.result.now)
     (λ labels. IsStable source.term source.values.items labels.items)
-    (λ labels numbered same. labels-stable source.term source.values.items is.found.firsts.items
-    is.ensures.stable is.ensures.coarsest labels.items (same ∙ c.as_slice.ensures.value)
-    (subst (λ n. list_all (states_below n) source.values.items ≡ true) (sym source.one_each)
-    source.in_range))
+    (λ labels numbered same. (c.first_equivalents_are_numbered.ensures.numbered source.term
+    source.values.items is.found.firsts.items labels.items
+    (subst (λ n. IsTrue (list_all (states_below n) source.values.items)) (sym source.one_each)
+    source.in_range)
+    are (same ∙ c.as_slice.ensures.value)).stable)
     c.class_numbers.ensures.numbered c.class_numbers.ensures.same_classes
 
 pub returns-clause-blocks : goal.returns-clause-blocks

@@ -53,12 +53,12 @@ returns-clause-prints g c =
         };
         text = text;
       } in
-      is_minimal (content_of source) output.items made
-      (record {
-        one_each = source.one_each;
-        in_range = subst (λ n. IsTrue (list_all (states_below n) source.values.items))
-            (sym source.one_each) source.in_range;
-      })
-      formed laws),
+          is_minimal (content_of source) output.items made
+          (record {
+            one_each = source.one_each;
+            in_range = subst (λ n. IsTrue (list_all (states_below n) source.values.items))
+                (sym source.one_each) source.in_range;
+          })
+          formed laws),
     ))
     c.quotient_text.ensures.canonical

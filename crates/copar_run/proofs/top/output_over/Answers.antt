@@ -36,10 +36,14 @@ returns-in-Ok-clause-made g c =
     let o = met files (g.F.Folder.faults c.args.folder.now)
     (g.F.Folder.faults c.file_bytes.new.folder) in
     IfOk-weaker c.output_for.result _ _
-    (λ output (rise, risen, prints). (rise, risen, made (denoted c.args.request) c.file.result.now c.file.ensures o
-    c.deref.result.now
-    (subst (λ b. IfSome files (λ f. Holds f c.file.result.now b)) (sym c.deref.ensures.value)
-    c.in-Ok.ensures.whole_file)
-    (subst (λ b. length b ≤ most_bytes) (sym c.deref.ensures.value) c.in-Ok.ensures.within)
-    (c.in-Ok.ensures.counted (λ e. cc)) rise output.items prints))
+    (λ output (rise, risen, prints). (
+      rise,
+      risen,
+      made (denoted c.args.request) c.file.result.now c.file.ensures o
+          c.deref.result.now
+          (subst (λ b. IfSome files (λ f. Holds f c.file.result.now b)) (sym c.deref.ensures.value)
+          c.in-Ok.ensures.whole_file)
+          (subst (λ b. length b ≤ most_bytes) (sym c.deref.ensures.value) c.in-Ok.ensures.within)
+          (c.in-Ok.ensures.counted (λ e. cc)) rise output.items prints,
+    ))
     c.output_for.ensures.output
