@@ -1,12 +1,15 @@
 #!/usr/bin/env python3
-"""Times `copar blocks`, or another command, on made files of sets of states, and prints a table.
+"""Times `copar blocks`, or another command, on made files, and prints a table in Markdown.
 
 usage: bench/blocks.py [--program P] [--command C] [--seconds S] [--sizes N,N,..] [--kinds K,K,..]
 
-Kinds, each made anew from a seed: `random` has 1.5 elements a state; `tree` is a full binary tree;
-`alike` has one class, so it is reading and one round; `chain` is one long chain, which takes as many
-rounds as states. A run of more than S seconds is stopped. Files and outputs stand in a folder of the
-system's temporary files while it runs.
+Kinds, each made anew from a seed. Of sets of states: `random` has 1.5 elements a state; `tree` is a full
+binary tree; `alike` has one class; `chain` is one long chain. Of other functors: `lts` has up to three
+labelled steps a state, `markov` a mark and two next states with eighths, `sums` a mark and up to three
+whole weights from -3 to 3, `dfa` a mark and a next state for each of two letters; `fibonacci` is a cycle
+with the letters of a Fibonacci word for marks, of the Fibonacci number of states below the size. A run of
+more than S seconds is stopped. Files and outputs stand in a folder of the system's temporary files while
+it runs.
 """
 import argparse
 import os
@@ -31,9 +34,40 @@ def members(kind, n, chance):
     return [[(i + 1) % n] for i in range(n)]
 
 
+def drawn(kind, n, chance):
+    """A functor, and for each state its structure."""
+    def state():
+        return f"s{chance.randrange(n)}"
+
+    if kind == "lts":
+        return "P({a,b,c} x X)", ["{" + ", ".join(
+            f"({chance.choice('abc')}, {state()})" for _ in range(chance.randrange(4))) + "}"
+            for _ in range(n)]
+    if kind == "markov":
+        eighths = [chance.randrange(1, 8) for _ in range(n)]
+        return "2 x D X", [f"({chance.randrange(2)}, {{{state()}: {k}/8, {state()}: {8 - k}/8}})"
+                           for k in eighths]
+    if kind == "sums":
+        return "2 x Z^(X)", [f"({chance.randrange(2)}, {{" + ", ".join(
+            f"{state()}: {chance.randrange(-3, 4)}" for _ in range(chance.randrange(4))) + "})"
+            for _ in range(n)]
+    if kind == "dfa":
+        return "2 x X^{a,b}", [f"({chance.randrange(2)}, {{a: {state()}, b: {state()}}})"
+                               for _ in range(n)]
+    word, longer = "0", "01"
+    while len(longer) <= n:
+        word, longer = longer, longer + word
+    return "2 x X", [f"({mark}, s{(i + 1) % len(word)})" for i, mark in enumerate(word)]
+
+
 def write_file(path, kind, n):
     chance = random.Random(7)
     with open(path, "w", encoding="ascii") as out:
+        if kind in ("lts", "markov", "sums", "dfa", "fibonacci"):
+            functor, structures = drawn(kind, n, chance)
+            out.write(functor + "\n")
+            out.writelines(f"s{i}: {structure}\n" for i, structure in enumerate(structures))
+            return
         out.write("P X\n")
         for i, targets in enumerate(members(kind, n, chance)):
             out.write(f"s{i}: {{{', '.join(f's{t}' for t in targets)}}}\n")

@@ -114,7 +114,8 @@ const COUNTED: &[(&str, &[u8], u64)] = &[
 
 /// How many labels are counted.
 fn labels_of(alloc: Global, c: &Coalgebra) -> Result<u64, AllocError> {
-    Ok(from_zero::<Brand>(alloc, c, Blank::new(1))?.labels)
+    let found = from_zero::<Brand>(alloc, c, Blank::new(1))?;
+    Ok(found.labels)
 }
 
 #[test]

@@ -101,77 +101,77 @@ weight_same stay k l hk hl Bag x = refl
 weight_same stay k l hk hl Integers x = refl
 
 module _ (stay : LowestTermsStay) (k l : ℕ) (hk : 1 ≤ k) (hl : 1 ≤ l) (names : List (List ℕ))
-    where
-  entries_same : (m : Node) (f : Rescale) (w other : Write) → Same f w other
-      → (es : List (Value × ℤ))
-      → entry_texts (k * l) m w (rescaled_entries k m f es) ≡ entry_texts l m other es
-  entries_same m f w other same [] = refl
-  entries_same m f w other same (e ∷ es) =
-      λ i. paired (same e.0 i) (weight_same stay k l hk hl m e.1 i)
-      ∷ entries_same m f w other same es i
+  where
+    entries_same : (m : Node) (f : Rescale) (w other : Write) → Same f w other
+        → (es : List (Value × ℤ))
+        → entry_texts (k * l) m w (rescaled_entries k m f es) ≡ entry_texts l m other es
+    entries_same m f w other same [] = refl
+    entries_same m f w other same (e ∷ es) =
+        λ i. paired (same e.0 i) (weight_same stay k l hk hl m e.1 i)
+        ∷ entries_same m f w other same es i
 
-  weights_same : (m : Node) (fs : List Rescale) (ws others : List Write)
-      → Zip3 Same fs ws others → (v : Value)
-      → weights_text (k * l) m ws (value.Weights (rescaled_entries k m (rescale_at fs 0) (entries v)))
-      ≡ weights_text l m others v
-  weights_same m fs ws others z v =
-      ap (λ es. in_braces (listed (entry_texts (k * l) m (write_at ws 0) es)))
-      (weights_entries (rescaled_entries k m (rescale_at fs 0) (entries v)))
-      ∙ ap (λ texts. in_braces (listed texts))
-      (entries_same m (rescale_at fs 0) (write_at ws 0) (write_at others 0)
-      (at_same fs ws others z 0) (entries v))
+    weights_same : (m : Node) (fs : List Rescale) (ws others : List Write)
+        → Zip3 Same fs ws others → (v : Value)
+        → weights_text (k * l) m ws (value.Weights (rescaled_entries k m (rescale_at fs 0) (entries v)))
+        ≡ weights_text l m others v
+    weights_same m fs ws others z v =
+        ap (λ es. in_braces (listed (entry_texts (k * l) m (write_at ws 0) es)))
+        (weights_entries (rescaled_entries k m (rescale_at fs 0) (entries v)))
+        ∙ ap (λ texts. in_braces (listed texts))
+        (entries_same m (rescale_at fs 0) (write_at ws 0) (write_at others 0)
+        (at_same fs ws others z 0) (entries v))
 
-  -- one node
-  step_same : (m : Node) (fs : List Rescale) (ws others : List Write) → Zip3 Same fs ws others
-      → Same (formed_step k m fs) (write_step (k * l) names m ws) (write_step l names m others)
-  step_same State fs ws others z v = refl
-  step_same (Constant labels) fs ws others z v = refl
-  step_same Naturals fs ws others z v = refl
-  step_same Product fs ws others z v =
-      ap (λ vs. in_parentheses (listed (part_texts ws 0 vs)))
-      (tuple_parts (rescaled_places fs (parts v)))
-      ∙ ap (λ texts. in_parentheses (listed texts)) (places_same fs ws others z (parts v))
-  step_same Sum fs ws others z v =
-      ap (λ u. part_text (index (value.Inj (index v) u0)) (write_at ws (index (value.Inj (index v) u0)) u))
-      (inj_inner (index v) u0)
-      ∙ ap (λ j. part_text j (write_at ws j u0)) (inj_index (index v) u0)
-      ∙ ap (part_text (index v)) (at_same fs ws others z (index v) (inner v))
-    where
-      u0 : Value
-      u0 = rescale_at fs (index v) (inner v)
-  step_same (Power labels) fs ws others z v =
-      ap (λ vs. in_braces (listed (keyed_texts labels (write_at ws 0) 0 vs)))
-      (tuple_parts (by_child fs (parts v)))
-      ∙ ap (λ texts. in_braces (listed texts))
-      (keyed_same (rescale_at fs 0) (write_at ws 0) (write_at others 0)
-      (at_same fs ws others z 0) labels 0 (parts v))
-  step_same Powerset fs ws others z v =
-      ap (λ vs. in_braces (listed (map (write_at ws 0) vs))) (set_parts (by_child fs (parts v)))
-      ∙ ap (λ texts. in_braces (listed texts))
-      (each_same (rescale_at fs 0) (write_at ws 0) (write_at others 0)
-      (at_same fs ws others z 0) (parts v))
-  step_same Bag fs ws others z v = weights_same Bag fs ws others z v
-  step_same Distribution fs ws others z v = weights_same Distribution fs ws others z v
-  step_same Integers fs ws others z v = weights_same Integers fs ws others z v
-  step_same Rationals fs ws others z v = weights_same Rationals fs ws others z v
+    -- one node
+    step_same : (m : Node) (fs : List Rescale) (ws others : List Write) → Zip3 Same fs ws others
+        → Same (formed_step k m fs) (write_step (k * l) names m ws) (write_step l names m others)
+    step_same State fs ws others z v = refl
+    step_same (Constant labels) fs ws others z v = refl
+    step_same Naturals fs ws others z v = refl
+    step_same Product fs ws others z v =
+        ap (λ vs. in_parentheses (listed (part_texts ws 0 vs)))
+        (tuple_parts (rescaled_places fs (parts v)))
+        ∙ ap (λ texts. in_parentheses (listed texts)) (places_same fs ws others z (parts v))
+    step_same Sum fs ws others z v =
+        ap (λ u. part_text (index (value.Inj (index v) u0)) (write_at ws (index (value.Inj (index v) u0)) u))
+        (inj_inner (index v) u0)
+        ∙ ap (λ j. part_text j (write_at ws j u0)) (inj_index (index v) u0)
+        ∙ ap (part_text (index v)) (at_same fs ws others z (index v) (inner v))
+      where
+        u0 : Value
+        u0 = rescale_at fs (index v) (inner v)
+    step_same (Power labels) fs ws others z v =
+        ap (λ vs. in_braces (listed (keyed_texts labels (write_at ws 0) 0 vs)))
+        (tuple_parts (by_child fs (parts v)))
+        ∙ ap (λ texts. in_braces (listed texts))
+        (keyed_same (rescale_at fs 0) (write_at ws 0) (write_at others 0)
+        (at_same fs ws others z 0) labels 0 (parts v))
+    step_same Powerset fs ws others z v =
+        ap (λ vs. in_braces (listed (map (write_at ws 0) vs))) (set_parts (by_child fs (parts v)))
+        ∙ ap (λ texts. in_braces (listed texts))
+        (each_same (rescale_at fs 0) (write_at ws 0) (write_at others 0)
+        (at_same fs ws others z 0) (parts v))
+    step_same Bag fs ws others z v = weights_same Bag fs ws others z v
+    step_same Distribution fs ws others z v = weights_same Distribution fs ws others z v
+    step_same Integers fs ws others z v = weights_same Integers fs ws others z v
+    step_same Rationals fs ws others z v = weights_same Rationals fs ws others z v
 
-  -- a value that fits
-  value_same : (t : Nodes) (v : Value) → fits t 0 v ≡ true
-      → text_at (k * l) names t 0 (rescaled k t 0 v) ≡ text_at l names t 0 v
-  value_same t v fit =
-      ap (text_at (k * l) names t 0) (rescaled-formed k t 0 v fit)
-      ∙ fold-related3 Same no_rescale no_write no_write (formed_step k)
-      (write_step (k * l) names) (write_step l names) (λ u. refl) step_same t 0 v
+    -- a value that fits
+    value_same : (t : Nodes) (v : Value) → fits t 0 v ≡ true
+        → text_at (k * l) names t 0 (rescaled k t 0 v) ≡ text_at l names t 0 v
+    value_same t v fit =
+        ap (text_at (k * l) names t 0) (rescaled-formed k t 0 v fit)
+        ∙ fold-related3 Same no_rescale no_write no_write (formed_step k)
+        (write_step (k * l) names) (write_step l names) (λ u. refl) step_same t 0 v
 
-  lines_same : (t : Nodes) (heads : List (List ℕ)) (vs : List Value)
-      → list_all (fits t 0) vs ≡ true
-      → state_lines (text_at (k * l) names t 0) heads (map (rescaled k t 0) vs)
-      ≡ state_lines (text_at l names t 0) heads vs
-  lines_same t [] vs fit = refl
-  lines_same t (head ∷ heads) [] fit = refl
-  lines_same t (head ∷ heads) (v ∷ vs) fit =
-      let p = and_parts (fits t 0 v) (list_all (fits t 0) vs) fit in
-      λ i. state_line head (value_same t v p.0 i) ++ lines_same t heads vs p.1 i
+    lines_same : (t : Nodes) (heads : List (List ℕ)) (vs : List Value)
+        → list_all (fits t 0) vs ≡ true
+        → state_lines (text_at (k * l) names t 0) heads (map (rescaled k t 0) vs)
+        ≡ state_lines (text_at l names t 0) heads vs
+    lines_same t [] vs fit = refl
+    lines_same t (head ∷ heads) [] fit = refl
+    lines_same t (head ∷ heads) (v ∷ vs) fit =
+        let p = and_parts (fits t 0 v) (list_all (fits t 0) vs) fit in
+        λ i. state_line head (value_same t v p.0 i) ++ lines_same t heads vs p.1 i
 
 -- the text of these parts
 abbrev text_with : Nodes → List (List ℕ) → ℕ → List Value → List ℕ
