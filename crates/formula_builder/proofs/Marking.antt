@@ -1,59 +1,20 @@
 -- Marks of formulas that are wanted or cited.
 --
--- mark_tells             == what has a mark after one more number got one
--- twice                  == two steps of marking in a row
 -- through_closed, untouched_closed      == one formula further, what is cited has marks
 -- through_reasoned       == the new marks have reasons
-use Rattle.std.proofs.Common.{◌≡◌, ◌+◌, ◌<◌, ◌≤◌, ◌⊎◌, ℕ, zero, suc, Bool, true, false, List, [], ◌∷◌, length, set, refl, sym, ◌∙◌, ap, subst, inl, inr, arith}
-use Rattle.std.specs.Prelude.{slice_get, Some, ◌↔◌}
+-- marked_from, unmarked_from            == marks that are read
+-- wished_all, wished_only               == the wanted numbers before a place, and one more
+use Rattle.std.proofs.Common.{◌≡◌, ◌+◌, ◌<◌, ◌⊎◌, ℕ, Bool, true, false, List, [], ◌∷◌, ◌++◌, length, get_or, take, refl, sym, ◌∙◌, ap, subst, inl, inr, arith}
+use Rattle.std.specs.Prelude.{All, Contains, slice_get, Some, ◌↔◌}
+use Rattle.std.proofs.lemmas.List.{take_more, get_or_default}
+use Rattle.std.proofs.lemmas.List.Elements.{All-push}
+use Rattle.std.proofs.lemmas.Option.{slice_get_within, slice_get_cases, get_or_from_slice_get}
 use Rattle.std.proofs.lemmas.Bool.Decides.{eqb_tells}
 use Rattle.formulas.specs.declared.formula.Formula.{Formula}
-use Rattle.formulas.specs.Formulas.{CitesBelow, IsDag}
+use Rattle.formulas.specs.Formulas.{IsDag}
 use Rattle.formula_builder.specs.Cited.{Cites}
 use Rattle.formula_builder.specs.Keeping.{IsMarked, AreReasoned, AreClosed}
 use Rattle.formula_builder.proofs.Renumbered.{cites-below}
-
--- what has a mark after one more number got one
-pub mark_tells :
-    (xs : List Bool) (k : ℕ) → k < length xs → (j : ℕ) →
-    IsMarked (set xs k true) j ↔ (IsMarked xs j ⊎ (j ≡ k))
-mark_tells [] k h j = absurd (omega arith)
-mark_tells (x ∷ xs) zero h zero = (λ e. inr refl, λ e. refl)
-mark_tells (x ∷ xs) zero h (suc j) = (λ e. inl e, λ o. elim o [
-  | inl e ↦ e
-  | inr e ↦ absurd (omega (arith, e))
-])
-mark_tells (x ∷ xs) (suc k) h zero = (λ e. inl e, λ o. elim o [
-  | inl e ↦ e
-  | inr e ↦ absurd (omega (arith, e))
-])
-mark_tells (x ∷ xs) (suc k) h (suc j) =
-    let rest = mark_tells xs k (omega arith) j in
-    (λ e. elim (rest.0 e) [
-      | inl old ↦ inl old
-      | inr new ↦ inr (ap suc new)
-    ], λ o. elim o [
-      | inl old ↦ rest.1 (inl old)
-      | inr new ↦ rest.1 (inr (omega (arith, new)))
-    ])
-
--- two steps of marking in a row
-pub twice :
-    (P Q R E F : Type 0) → Q ↔ (P ⊎ E) → R ↔ (Q ⊎ F) → R ↔ (P ⊎ (E ⊎ F))
-twice P Q R E F one two =
-    (λ r. elim (two.0 r) [
-      | inl q ↦ elim (one.0 q) [
-        | inl p ↦ inl p
-        | inr e ↦ inr (inl e)
-      ]
-      | inr f ↦ inr (inr f)
-    ], λ o. elim o [
-      | inl p ↦ two.1 (inl (one.1 (inl p)))
-      | inr o ↦ elim o [
-        | inl e ↦ two.1 (inl (one.1 (inr e)))
-        | inr f ↦ two.1 (inr f)
-      ]
-    ])
 
 -- one formula further, what is cited has marks
 pub through_closed :
@@ -63,7 +24,7 @@ pub through_closed :
     AreClosed dag before (k + 1) → AreClosed dag after k
 through_closed dag k f before after ordered is tells closed j g i from e marked cites =
     elim (eqb_tells j k) [
-      | inl here ↦ (tells i).1 (inr (same here.0))
+      | inl here ↦ (tells i).1 (inr (same here.1))
       | inr other ↦ elim ((tells j).0 marked) [
         | inl old ↦ (tells i).1 (inl (closed j g i (omega (arith, other.1)) e old cites))
         | inr cited ↦ absurd (omega (arith, cites-below f k (ordered k f is) j cited))
@@ -82,7 +43,7 @@ pub untouched_closed :
     AreClosed dag marks (k + 1) → AreClosed dag marks k
 untouched_closed dag k marks none closed j g i from e marked cites =
     elim (eqb_tells j k) [
-      | inl here ↦ absurd (none (subst (λ n. IsMarked marks n) here.0 marked))
+      | inl here ↦ absurd (none (subst (λ n. IsMarked marks n) here.1 marked))
       | inr other ↦ closed j g i (omega (arith, other.1)) e marked cites
     ]
 
@@ -100,3 +61,51 @@ through_reasoned dag k f before after wanted is tells here reasons j marked =
       ]
       | inr cited ↦ inr (k, f, is, cited, (tells k).1 (inl here))
     ]
+
+-- the wanted numbers before a place and the one there have marks
+pub wished_all :
+    (wanted : List ℕ) (i k : ℕ) (before after : List Bool) → i < length wanted →
+    k ≡ get_or wanted i 0 →
+    ((j : ℕ) → IsMarked after j ↔ (IsMarked before j ⊎ (j ≡ k))) →
+    All (λ j. IsMarked before j) (take i wanted) → All (λ j. IsMarked after j) (take (i + 1) wanted)
+wished_all wanted i k before after below is tells all =
+    subst (λ js. All (λ j. IsMarked after j) js)
+    (sym (take_more wanted i 0 below ∙ ap (λ n. take i wanted ++ n ∷ []) (sym is)))
+    (All-push (λ j. IsMarked after j) (take i wanted) k
+    (λ n d h. (tells (get_or (take i wanted) n d)).1 (inl (all n d h)))
+    ((tells k).1 (inr refl)))
+
+-- and nothing else has one
+pub wished_only :
+    (wanted : List ℕ) (i k : ℕ) (before after : List Bool) → i < length wanted →
+    k ≡ get_or wanted i 0 →
+    ((j : ℕ) → IsMarked after j ↔ (IsMarked before j ⊎ (j ≡ k))) →
+    ((j : ℕ) → IsMarked before j → Contains wanted j) →
+    (j : ℕ) → IsMarked after j → Contains wanted j
+wished_only wanted i k before after below is tells only j marked = elim ((tells j).0 marked) [
+  | inl old ↦ only j old
+  | inr here ↦ subst (λ n. Contains wanted n) (sym here) (i, below, get_or_default wanted i k 0 below ∙ sym is)
+]
+
+-- past the end nothing is cited
+pub closed_past :
+    (dag : List Formula) (marks : List Bool) → AreClosed dag marks (length dag)
+closed_past dag marks j f i past e marked cites =
+    absurd (omega (arith, slice_get_within dag j f e))
+
+-- a mark that is read is there
+pub marked_from :
+    (marks : List Bool) (k : ℕ) (d : Bool) → k < length marks → get_or marks k d ≡ true →
+    IsMarked marks k
+marked_from marks k d below e = elim (slice_get_cases marks k).1 [
+  | inl found ↦ found.2
+      ∙ ap (λ (b : Bool). Some b) (sym (get_or_from_slice_get marks k found.0 d found.2) ∙ e)
+  | inr past ↦ absurd (omega (arith, past.0))
+]
+
+-- and one that is not read is not there
+pub unmarked_from :
+    (marks : List Bool) (k : ℕ) (d : Bool) → get_or marks k d ≡ false → IsMarked marks k → ⊥
+unmarked_from marks k d e mark =
+    let no : true ≡ false = sym (get_or_from_slice_get marks k true d mark) ∙ e in
+    absurd (cc no)

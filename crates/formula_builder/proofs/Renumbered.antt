@@ -1,10 +1,11 @@
 -- Formulas under new numbers.
 --
 -- cites-below            == what a formula cites is below each bound of its citations
+-- cites-more             == and below each larger one
 -- renumbered-same        == numbers that agree on all that is cited renumber alike
 -- renumbered-back        == numbers that lead back undo a renumbering
 -- kept_truth             == a renumbered formula holds where the old one does
-use Rattle.std.proofs.Common.{◌≡◌, ◌<◌, ◌⊎◌, ℕ, zero, suc, Bool, List, [], ◌∷◌, ◌++◌, length, refl, sym, ◌∙◌, ap, subst, inl, inr, arith, tt}
+use Rattle.std.proofs.Common.{◌≡◌, ◌<◌, ◌≤◌, ◌⊎◌, ℕ, zero, suc, List, [], ◌∷◌, ◌++◌, length, refl, sym, ◌∙◌, ap, subst, inl, inr, arith}
 use Rattle.std.specs.Prelude.{slice_get, Some}
 use Rattle.formulas.specs.declared.formula.Formula.{Formula}
 use Rattle.formulas.specs.declared.formula.Formula.TheVariants.{True, Not, And, At}
@@ -25,6 +26,13 @@ cites-below (At q v s l) n below i c = elim c [
   | inl e ↦ subst (λ m. m < n) (sym e) below.0
   | inr e ↦ subst (λ m. m < n) (sym e) below.1
 ]
+
+-- what cites below a bound cites below a larger one
+pub cites-more : (f : Formula) (n m : ℕ) → n ≤ m → CitesBelow n f → CitesBelow m f
+cites-more True n m le below = tt
+cites-more (Not i) n m le below = omega (arith, below)
+cites-more (And i j) n m le below = (omega (arith, below.0), omega (arith, below.1))
+cites-more (At q v s c) n m le below = (omega (arith, below.0), omega (arith, below.1))
 
 -- new numbers below a bound are cited below it
 pub renumbered-below :

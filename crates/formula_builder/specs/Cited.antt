@@ -5,7 +5,7 @@
 -- IsCited dag wanted j      == formula j is wanted, or cited on the way from a wanted one
 -- renumbered new f          == the formula with each number that it cites replaced
 -- IsOnlyCited               == a list is what is wanted and cited of another
-use Rattle.std.specs.Prelude.{◌≡◌, ◌<◌, ◌≤◌, ◌⊎◌, ℕ, zero, suc, List, length, Contains, slice_get, slice_index, Some}
+use Rattle.std.specs.Prelude.{◌≡◌, ◌<◌, ◌⊎◌, ℕ, zero, suc, List, length, Contains, slice_get, slice_index, Some}
 use Rattle.formulas.specs.declared.formula.Formula.{Formula}
 use Rattle.formulas.specs.declared.formula.Formula.TheVariants.{True, Not, And, At}
 use Rattle.formulas.specs.Formulas.{IsDag}

@@ -1,6 +1,6 @@
 //! The formulas that are wanted or cited, and no others.
 
-ghost use Rattle.std.specs.Prelude.{◌≡◌, ◌<◌, ◌≤◌, ◌+◌, ◌⊎◌, ◌↔◌, ℕ, Bool, true, List, length, All, slice_index, slice_get, Some, IfOk, OnOk};
+ghost use Rattle.std.specs.Prelude.{◌≡◌, ◌<◌, ◌≤◌, ◌+◌, ◌⊎◌, ◌↔◌, ℕ, Bool, true, List, length, map, All, slice_index, slice_get, Some, IfOk, OnOk};
 ghost use Rattle.formulas.specs.declared.formula.Formula.{Formula};
 ghost use Rattle.formulas.specs.Formulas.{CitesBelow, IsDag};
 ghost use Rattle.formula_builder.specs.Cited.{Cites, renumbered, IsOnlyCited};
@@ -117,20 +117,19 @@ fn keep(
     alloc: Global,
     dag: &Dag,
     marks: &[bool],
+    k: u32,
     small: &mut Dag,
     numbers: &mut Vec<u32>,
 ) -> Result<(), AllocError>
-    requires next { length numbers.old.items < length dag.now }
+    requires next { k < length dag.now }
     requires one_each { length marks.now ≡ length dag.now }
     requires closed { AreClosed dag.now marks.now 0 }
-    requires kept { AreKept dag.now marks.now small.old numbers.old.items
-        (length numbers.old.items) }
-    ensures kept { OnOk result (AreKept dag.now marks.now small.new numbers.new.items
-        (length numbers.old.items + 1)) }
+    requires kept { AreKept dag.now marks.now small.old numbers.old.items k }
+    ensures kept { OnOk result
+        (AreKept dag.now marks.now small.new numbers.new.items (k + 1)) }
 {
     // The formulas stand in their order.
     let _ordered = dag.len();
-    let k = numbers.len() as u32;
     let formula = renumber(alloc, dag.formula(k), numbers.as_slice())?;
     numbers.push(small.len())?;
     if marks[k as usize] {
@@ -147,10 +146,22 @@ fn kept(alloc: Global, dag: &Dag, marks: &[bool]) -> Result<(Dag, Vec<u32>), All
 {
     let mut small = Dag::new(alloc);
     let mut numbers = Vec::with_capacity(alloc, dag.len() as usize)?;
-    for _ in 0..dag.len() {
-        keep(alloc, dag, marks, &mut small, &mut numbers)?;
+    for k in 0..dag.len() {
+        keep(alloc, dag, marks, k, &mut small, &mut numbers)?;
     }
     Ok((small, numbers))
+}
+
+/// The new number of each wanted formula.
+fn new_numbers(alloc: Global, numbers: &[u32], wanted: &[u32]) -> Result<Vec<u32>, AllocError>
+    requires { All (λ k. k < length numbers.now) wanted.now }
+    ensures { IfOk result (λ new. new.items ≡ map (slice_index numbers.now) wanted.now) }
+{
+    let mut new = Vec::with_capacity(alloc, wanted.len())?;
+    for k in wanted {
+        new.push(numbers[*k as usize])?;
+    }
+    Ok(new)
 }
 
 /// The formulas of a list that are wanted, or cited on the way from wanted ones, in their order and
@@ -165,12 +176,11 @@ pub fn only_cited(
     requires { All (λ k. k < length dag.now) wanted.now }
     ensures { IfOk result (λ r. IsOnlyCited dag.now wanted.now r.0 r.1.items) }
 {
+    // The formulas stand in their order.
+    let _ordered = dag.len();
     let marks = needed(alloc, dag, wanted)?;
     let (small, numbers) = kept(alloc, dag, marks.as_slice())?;
-    let mut new = Vec::with_capacity(alloc, wanted.len())?;
-    for k in wanted {
-        new.push(numbers[*k as usize])?;
-    }
+    let new = new_numbers(alloc, numbers.as_slice(), wanted)?;
     Ok((small, new))
 }
 
