@@ -203,10 +203,13 @@ module _
           get_or wanted p (slice_index is.old j) ≡ slice_index is.old j →
           slice_index numbers (slice_index is.old j) ≡ j → Contains new j
       at_wished p hp e back =
-          let inside : p < length new = omega (arith, as_many) in
-          (p, inside, get_or_default new p j 0 inside ∙ number_of p hp
-          ∙ ap (slice_index numbers) (get_or_default wanted p 0 (slice_index is.old j) hp ∙ e)
-          ∙ back)
+          let inside : p < length new = omega (arith, as_many) in (
+            p,
+            inside,
+            get_or_default new p j 0 inside ∙ number_of p hp
+                ∙ ap (slice_index numbers) (get_or_default wanted p 0 (slice_index is.old j) hp ∙ e)
+                ∙ back,
+          )
 
       formula_at : (m : ℕ) → m < length small → (f : Formula) × (slice_get small m ≡ Some f)
       formula_at m below = elim (slice_get_cases small m).1 [

@@ -84,7 +84,8 @@ pub wished_only :
     (j : ℕ) → IsMarked after j → Contains wanted j
 wished_only wanted i k before after below is tells only j marked = elim ((tells j).0 marked) [
   | inl old ↦ only j old
-  | inr here ↦ subst (λ n. Contains wanted n) (sym here) (i, below, get_or_default wanted i k 0 below ∙ sym is)
+  | inr here ↦ subst (λ n. Contains wanted n) (sym here)
+      (i, below, get_or_default wanted i k 0 below ∙ sym is)
 ]
 
 -- past the end nothing is cited

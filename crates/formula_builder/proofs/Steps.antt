@@ -4,7 +4,8 @@ use Rattle.std.specs.Prelude.{◌^◌, All, Contains, slice_index}
 use Rattle.std.proofs.lemmas.Bool.Decides.{eqb_tells}
 use Rattle.std.proofs.lemmas.List.{take_all}
 use Rattle.modalities.specs.declared.three.Three.{Three}
-use Rattle.sorted_systems.specs.Systems.{Sorted, IsState, class_in}
+use Rattle.sorted_systems.specs.Systems.{Sorted, IsState, class_in, system_from}
+use Rattle.edge_store.specs.declared.edge.Edge.{Edge}
 use Rattle.refiner.specs.declared.parts.Start.{Start}
 use Rattle.refiner.specs.Recorded.{Split}
 use Rattle.refiner.specs.Recorded.{Round}
@@ -18,16 +19,39 @@ use Rattle.formula_builder.proofs.Telling.{Tells}
 use Rattle.formula_builder.proofs.Blocks.{IsTold, start_told, round_told}
 use Rattle.formula_builder.proofs.Counted.{stays_live, IsCounted, few_of, starts_few, start_counted, round_counted, round_room}
 
+-- there is a state for each shape
+pub system_length :
+    {Shape Label : Type 0} (first : ℕ) (shapes : List Shape) (edges : List (Edge Label)) →
+    length (system_from first shapes edges) ≡ length shapes
+system_length first [] edges = refl
+system_length first (s ∷ shapes) edges = ap suc (system_length (first + 1) shapes edges)
+
+pub few_in_system :
+    {Shape Label : Type 0} (shapes : List Shape) (edges : List (Edge Label)) →
+    length shapes < 2 ^ 26 → length (system_from 0 shapes edges) < 2 ^ 26
+few_in_system shapes edges few = subst (λ n. n < 2 ^ 26) (sym (system_length 0 shapes edges)) few
+
 -- the start blocks, when all are told
 pub begun_from :
     (book : Book) (start : List Start) (i : ℕ) → length start ≤ i →
     AreStartsTold book (take i start) → book.coarse ≡ 0 ∷ [] → IsBegun start book
 begun_from book start i past told coarse =
-    let all : AreStartsTold book start = subst (λ ps. AreStartsTold book ps) (take_all i start past) told in
-    record { ordered = all.ordered; top = all.top; blocks = all.blocks; nodes = all.nodes; coarse = coarse; count = all.count; modalities = all.modalities }
+    let all : AreStartsTold book start = subst (λ ps. AreStartsTold book ps) (take_all i start past)
+    told in
+    record {
+      ordered = all.ordered;
+      top = all.top;
+      blocks = all.blocks;
+      nodes = all.nodes;
+      coarse =
+          coarse;
+      count = all.count;
+      modalities = all.modalities;
+    }
 
 -- what is left of a list at a place
-drop_at : {X : Type 0} (xs : List X) (i : ℕ) (x : X) → i < length xs → x ≡ get_or xs i x → drop i xs ≡ x ∷ drop (i + 1) xs
+drop_at : {X : Type 0} (xs : List X) (i : ℕ) (x : X) → i < length xs → x ≡ get_or xs i x →
+    drop i xs ≡ x ∷ drop (i + 1) xs
 drop_at xs i x below is =
     let next : suc i ≡ i + 1 = omega arith in
     drop-cons xs i x below ∙ ap (λ y. y ∷ drop (suc i) xs) (sym is) ∙ ap (λ n. x ∷ drop n xs) next
@@ -54,7 +78,8 @@ module _
 
   -- After some rounds, the rest of the history is legal from the moment that is reached, and what
   -- is told of this moment holds.
-  pub record IsAt (number : ℕ) (rounds : List Round) (block_of : List ℕ) (count : ℕ) (book : Book) : Type 0 where
+  pub record IsAt (number : ℕ) (rounds : List Round) (block_of : List ℕ) (count : ℕ)
+      (book : Book) : Type 0 where
     pub moment : Moment
     pub later : List Moment
     pub legal : AreRounds node value system number moment later (drop number rounds)
@@ -66,7 +91,8 @@ module _
 
   -- a live block has an entry
   in_entries :
-      (number : ℕ) (m : Moment) (later : List Moment) (rounds : List Round) (block_of : List ℕ) (count : ℕ) →
+      (number : ℕ) (m : Moment) (later : List Moment) (rounds : List Round) (block_of : List ℕ)
+      (count : ℕ) →
       AreRounds node value system number m later rounds → length m.blocks ≡ length system →
       (last_moment m later).blocks ≡ block_of → All (λ b. b < count) block_of →
       (b : ℕ) → Contains m.blocks b → b < count
@@ -80,14 +106,18 @@ module _
       (few : length system < 2 ^ 26)
       (r : Round) (below : number < length rounds) (is : r ≡ get_or rounds number r) where
     -- the round that comes next, and the moment after it
-    next : (after : Moment) × (rest : List Moment) × IsRound node value system number at.moment after r
+    next : (after : Moment) × (rest : List Moment) × IsRound node value system number at.moment
+        after r
         × AreRounds node value system (number + 1) after rest (drop (number + 1) rounds)
         × ((last_moment after rest).blocks ≡ block_of)
-    next = by at.later (subst (λ rs. AreRounds node value system number at.moment at.later rs) (drop_at rounds number r below is) at.legal) at.answer
+    next = by at.later (subst (λ rs. AreRounds node value system number at.moment at.later rs)
+        (drop_at rounds number r below is) at.legal) at.answer
       where
-        by : (later : List Moment) → AreRounds node value system number at.moment later (r ∷ drop (number + 1) rounds) →
+        by : (later : List Moment) → AreRounds node value system number at.moment later
+            (r ∷ drop (number + 1) rounds) →
             (last_moment at.moment later).blocks ≡ block_of →
-            (after : Moment) × (rest : List Moment) × IsRound node value system number at.moment after r
+            (after : Moment) × (rest : List Moment) × IsRound node value system number at.moment
+            after r
             × AreRounds node value system (number + 1) after rest (drop (number + 1) rounds)
             × ((last_moment after rest).blocks ≡ block_of)
         by [] legal answer = absurd legal
@@ -100,14 +130,18 @@ module _
         let m : Moment = at.moment in
         let live : (b : ℕ) → Contains m.blocks b → b < length book.blocks =
         λ b in_. subst (λ n. b < n) (sym at.one_each)
-        (in_entries number m at.later (drop number rounds) block_of count at.legal at.told.blocks_each at.answer numbers b in_) in
+        (in_entries number m at.later (drop number rounds) block_of count at.legal
+        at.told.blocks_each at.answer numbers b in_) in
         let live_after : (b : ℕ) → Contains after.blocks b → b < length book.blocks =
         λ b in_. subst (λ n. b < n) (sym at.one_each)
-        (in_entries (number + 1) after rest (drop (number + 1) rounds) block_of count legal round.one_each answer numbers b in_) in
+        (in_entries (number + 1) after rest (drop (number + 1) rounds) block_of count legal
+        round.one_each answer numbers b in_) in
         let (x, hx, inside, outside) = round.splitter_proper in
         let coarse_live : Contains m.coarse r.coarse =
-        subst (λ c. Contains m.coarse c) inside (contains m.coarse x (subst (λ n. x < n) (sym at.told.coarse_each) hx)) in
-        let split_at : (k : ℕ) (s : Split) → k < length r.splits → IsSplit node value system m after r (get_or r.splits k s) =
+        subst (λ c. Contains m.coarse c) inside
+        (contains m.coarse x (subst (λ n. x < n) (sym at.told.coarse_each) hx)) in
+        let split_at : (k : ℕ) (s : Split) → k < length r.splits →
+        IsSplit node value system m after r (get_or r.splits k s) =
         λ k s h. round.splits k s h in
         record {
           splitter_in = live r.splitter round.splitter_live;
@@ -118,25 +152,31 @@ module _
           splits = λ k s h. (let split = round.splits k s h in record {
             parent_in = live (get_or r.splits k s).parent split.live;
             parent_there = (at.told.blocks (get_or r.splits k s).parent split.live).there;
-            parts_in = λ j p inside. live_after (get_or (get_or r.splits k s).parts j p).block (split.none_empty j p inside);
+            parts_in = λ j p inside. live_after (get_or (get_or r.splits k s).parts j p).block
+                (split.none_empty j p inside);
             apart = split.numbers_apart;
           });
           parents_apart = λ i j s before h. (
               let one : Split = get_or r.splits i s in
               let two : Split = get_or r.splits j s in
-              let split : IsSplit node value system m after r one = round.splits i s (omega arith) in
+              let split : IsSplit node value system m after r one =
+              round.splits i s (omega arith) in
               let other : IsSplit node value system m after r two = round.splits j s h in
               λ k p inside same. elim (eqb_tells (get_or one.parts k p).block one.parent) [
                 | inl keeps ↦ round.parents_apart i j s before h (sym keeps.1 ∙ same)
-                | inr new ↦ split.others_new k p inside new.1 (subst (λ c. Contains m.blocks c) (sym same) other.live)
+                | inr new ↦ split.others_new k p inside new.1
+                    (subst (λ c. Contains m.blocks c) (sym same) other.live)
               ]);
           parts_apart = round.news_apart;
-          room = (let most = round_room node value system number m after r round at.told.blocks_each at.told.coarse_each at.told.small book at.counted in
+          room = (let most = round_room node value system number m after r round at.told.blocks_each
+              at.told.coarse_each at.told.small book at.counted in
               omega arith);
         }
 
-    module _ (in_range : (x : ℕ) (a : Sorted Shape Label) → IsState system x a → All (λ t. t < length system) a.targets)
-        (new : Book) (step : IsRoundTold book new r) (one_each : length new.blocks ≡ length book.blocks)
+    module _ (in_range : (x : ℕ) (a : Sorted Shape Label) → IsState system x a →
+        All (λ t. t < length system) a.targets)
+        (new : Book) (step : IsRoundTold book new r) (one_each : length new.blocks
+        ≡ length book.blocks)
         (one_node_each : length new.nodes ≡ length book.nodes) where
       -- and once it is told, the builder is one round further
       pub step_at : IsAt (number + 1) rounds block_of count new
@@ -146,16 +186,20 @@ module _
             later = rest;
             legal = legal;
             answer = answer;
-            told = round_told node value system in_range number at.moment after r round book new at.told step;
+            told = round_told node value system in_range number at.moment after r round book new
+                at.told step;
             one_each = one_each ∙ at.one_each;
             one_node_each = one_node_each ∙ at.one_node_each;
-            counted = round_counted node value system number at.moment after r round at.told.blocks_each at.told.coarse_each at.told.small book new step at.counted;
+            counted = round_counted node value system number at.moment after r round
+                at.told.blocks_each at.told.coarse_each at.told.small book new step at.counted;
           }
 
-  module _ (in_range : (x : ℕ) (a : Sorted Shape Label) → IsState system x a → All (λ t. t < length system) a.targets) where
+  module _ (in_range : (x : ℕ) (a : Sorted Shape Label) → IsState system x a →
+      All (λ t. t < length system) a.targets) where
     -- the start
     pub start_at :
-        (refined : Answer) (first : Moment) (later : List Moment) → IsLegal node value system refined first later →
+        (refined : Answer) (first : Moment) (later : List Moment) →
+        IsLegal node value system refined first later →
         (book : Book) → IsBegun refined.start book →
         length book.blocks ≡ refined.blocks → length book.nodes ≡ refined.blocks →
         IsAt 0 refined.rounds refined.block_of refined.blocks book
@@ -172,24 +216,33 @@ module _
 
   -- a start block has an entry
   pub starts_in :
-      (refined : Answer) (first : Moment) (later : List Moment) → IsLegal node value system refined first later →
+      (refined : Answer) (first : Moment) (later : List Moment) →
+      IsLegal node value system refined first later →
       All (λ (p : Start). p.block < refined.blocks) refined.start
   starts_in refined first later legal k p h =
-      in_entries 0 first later refined.rounds refined.block_of refined.blocks legal.rounds legal.starts.one_each legal.answer legal.numbers
+      in_entries 0 first later refined.rounds refined.block_of refined.blocks legal.rounds
+      legal.starts.one_each legal.answer legal.numbers
       (get_or refined.start k p).block (legal.starts.none_empty k p h)
 
   -- there are no more start blocks than states
   pub few_starts :
-      (refined : Answer) (first : Moment) (later : List Moment) → IsLegal node value system refined first later →
+      (refined : Answer) (first : Moment) (later : List Moment) →
+      IsLegal node value system refined first later →
       length refined.start ≤ length system
-  few_starts refined first later legal = starts_few node value system refined.start first legal.starts
+  few_starts refined first later legal =
+      starts_few node value system refined.start first legal.starts
 
   -- there are at most six formulas for each state, and one
   pub few_at :
       (number : ℕ) (rounds : List Round) (block_of : List ℕ) (count : ℕ) (book : Book) →
       IsAt number rounds block_of count book → length book.dag ≤ 6 * length system + 1
   few_at number rounds block_of count book at =
-      omega (arith, at.counted.count, few_of number (length system) at.moment at.counted.lists at.told.blocks_each at.told.coarse_each)
+      omega (
+        arith,
+        at.counted.count,
+        few_of number (length system) at.moment at.counted.lists
+            at.told.blocks_each at.told.coarse_each,
+      )
 
   -- the end
   pub end_at :
@@ -205,12 +258,17 @@ module _
       })
     where
       says : (x : ℕ) → x < length system →
-          Tells node value system book.dag (slice_index book.blocks (class_in at.moment.blocks x)) (λ y. class_in at.moment.blocks y == class_in at.moment.blocks x)
-      says x hx = at.told.blocks (class_in at.moment.blocks x) (contains at.moment.blocks x (subst (λ n. x < n) (sym at.told.blocks_each) hx))
+          Tells node value system book.dag (slice_index book.blocks (class_in at.moment.blocks x))
+          (λ y. class_in at.moment.blocks y == class_in at.moment.blocks x)
+      says x hx =
+          at.told.blocks (class_in at.moment.blocks x)
+          (contains at.moment.blocks x (subst (λ n. x < n) (sym at.told.blocks_each) hx))
 
-      by : (later : List Moment) → AreRounds node value system number at.moment later [] → (last_moment at.moment later).blocks ≡ block_of → at.moment.blocks ≡ block_of
+      by : (later : List Moment) → AreRounds node value system number at.moment later [] →
+          (last_moment at.moment later).blocks ≡ block_of → at.moment.blocks ≡ block_of
       by [] legal answer = answer
       by (after ∷ rest) legal answer = absurd legal
 
       last : at.moment.blocks ≡ block_of
-      last = by at.later (subst (λ rs. AreRounds node value system number at.moment at.later rs) (drop_past rounds number past) at.legal) at.answer
+      last = by at.later (subst (λ rs. AreRounds node value system number at.moment at.later rs)
+          (drop_past rounds number past) at.legal) at.answer

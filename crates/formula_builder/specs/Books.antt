@@ -3,7 +3,7 @@
 --                        coarse block
 --     IsBegun            a start block has one modality, over the formula that always holds
 --     HasModality, parts_in  some formula is a modality with a node and value; how many parts
---     IsToldAs, IsPartTold   a part of a split has one modality, and its conjunction with the parent's
+-- IsToldAs, IsPartTold   a part of a split has one modality, and its conjunction with the parent's
 --     IsRoundTold        the parts of a round, and its two new coarse blocks
 --     AreRoundsTold      each round in turn
 use Rattle.std.specs.Prelude.{◌≡◌, ◌≢◌, ◌+◌, ◌*◌, ◌⊎◌, ℕ, List, [], ◌∷◌, ◌++◌, length, All, Any, slice_get, slice_index, Some}
@@ -94,7 +94,8 @@ pub record IsRoundTold (before after : Book) (r : Round) : Type 0 where
   pub count : length after.dag ≡ length before.dag + 2 * parts_in r.splits + 2
   pub modalities :
       (q : ℕ) (v : Three) → HasModality after q v → HasModality before q v
-      ⊎ Any (λ (s : Split). Any (λ (p : Part). (slice_index before.nodes s.parent ≡ q) × (p.three ≡ v))
+      ⊎ Any (λ (s : Split). Any (λ (p : Part). (slice_index before.nodes s.parent ≡ q)
+      × (p.three ≡ v))
       s.parts) r.splits
 
 -- the last book of a first one and those after it

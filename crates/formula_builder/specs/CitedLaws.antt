@@ -2,7 +2,8 @@
 -- structure.
 --
 -- CitedFormulasKeepTheirTruths   == a wanted formula holds where it held, under its new number
--- CitedModalitiesAreOld          == each modality has the node and the value of one of the large list
+-- CitedModalitiesAreOld          == each modality has the node and the value of one of the large
+-- list
 -- CitedFormulasAreNoMore         == the small list is no longer than the large one
 use Rattle.std.specs.Prelude.{◌≡◌, ◌<◌, ◌≤◌, ℕ, List, length, slice_get, slice_index, Some}
 use Rattle.modalities.specs.declared.three.Three.{Three}

@@ -79,7 +79,8 @@ pub record AreSplitsTold (before after : Book) (r : Round) (splits : List Split)
   pub count : length after.dag ≡ length before.dag + 2 * parts_in splits
   pub modalities :
       (q : ℕ) (v : Three) → HasModality after q v → HasModality before q v
-      ⊎ Any (λ (s : Split). Any (λ (p : Part). (slice_index before.nodes s.parent ≡ q) × (p.three ≡ v))
+      ⊎ Any (λ (s : Split). Any (λ (p : Part). (slice_index before.nodes s.parent ≡ q)
+      × (p.three ≡ v))
       s.parts) splits
 
 -- the start blocks are told

@@ -87,28 +87,27 @@ fn started(alloc: Global, start: &[Start], blocks: u32) -> Result<Notes, AllocEr
     Ok(notes)
 }
 
-/// The formulas of a legal history of rounds: of each block that there ever was, a formula that
-/// holds at exactly its members.
+/// The formulas of a legal history of rounds: of each last block a formula that holds at exactly its
+/// members. The shapes and edges are the system whose history it is; they are not looked at. There
+/// are fewer than 2^26 states. The error is want of memory.
 ///
-/// It takes one step for each start block, round and part. The shapes and edges are the system
-/// whose history it is; they are not looked at.
+/// It takes one step for each start block, round and part, and one for each state.
 pub fn build<I: Iface>(
-    iface: &I,
     alloc: Global,
+    iface: &I,
     shapes: &[I::Shape],
     store: &EdgeStore<I::Label>,
     refined: &Refined,
 ) -> Result<Certificates, AllocError>
     requires system { IsSystem (I.node iface.now) (I.kin iface.now) (I.fits iface.now)
         (system_from 0 shapes.now store.now.1) }
-    requires few_states { length (system_from 0 shapes.now store.now.1) < 2 ^ 26 }
+    requires few_states { length shapes.now < 2 ^ 26 }
     requires legal { (first : Moment) × (later : List Moment) ×
         IsLegal (I.node iface.now) (I.value iface.now) (system_from 0 shapes.now store.now.1)
         refined.now first later }
     ensures told { IfOk result (λ c. BlocksAreTold (I.node iface.now) (I.value iface.now)
         (system_from 0 shapes.now store.now.1) c.dag c.blocks c.block_of) }
-    ensures few { IfOk result (λ c.
-        length c.dag ≤ 6 * length (system_from 0 shapes.now store.now.1) + 1) }
+    ensures few { IfOk result (λ c. length c.dag ≤ 6 * length shapes.now + 1) }
     ensures same_blocks { IfOk result (λ c. c.block_of ≡ refined.now.block_of) }
 {
     let mut notes = started(alloc, refined.start(), refined.blocks())?;

@@ -4,7 +4,6 @@ ghost use Rattle.std.specs.Prelude.{◌≡◌, ◌<◌, ◌≤◌, ◌+◌, ◌�
 ghost use Rattle.formulas.specs.declared.formula.Formula.{Formula};
 ghost use Rattle.formulas.specs.Formulas.{CitesBelow, IsDag};
 ghost use Rattle.formula_builder.specs.Cited.{Cites, renumbered, IsOnlyCited};
-ghost use Rattle.formula_builder.specs.CitedLaws.{CitedFormulasKeepTheirTruths, CitedModalitiesAreOld, CitedFormulasAreNoMore};
 ghost use Rattle.formula_builder.specs.Keeping.{IsMarked, AreReasoned, AreClosed, AreNeeded, AreKept};
 
 use formulas::{Dag, Formula};
@@ -35,7 +34,9 @@ fn mark_cited(marks: &mut Vec<bool>, f: &Formula)
             mark(marks, *j);
         }
         Formula::At {
-            splitter, coarse, ..
+            splitter,
+            coarse,
+            ..
         } => {
             mark(marks, *splitter);
             mark(marks, *coarse);
@@ -168,11 +169,7 @@ fn new_numbers(alloc: Global, numbers: &[u32], wanted: &[u32]) -> Result<Vec<u32
 /// numbered anew; and the new number of each wanted one. The error is want of memory.
 ///
 /// It takes one step for each formula and each wanted number.
-pub fn only_cited(
-    alloc: Global,
-    dag: &Dag,
-    wanted: &[u32],
-) -> Result<(Dag, Vec<u32>), AllocError>
+pub fn only_cited(alloc: Global, dag: &Dag, wanted: &[u32]) -> Result<(Dag, Vec<u32>), AllocError>
     requires { All (λ k. k < length dag.now) wanted.now }
     ensures { IfOk result (λ r. IsOnlyCited dag.now wanted.now r.0 r.1.items) }
 {
@@ -183,15 +180,3 @@ pub fn only_cited(
     let new = new_numbers(alloc, numbers.as_slice(), wanted)?;
     Ok((small, new))
 }
-
-/// Where a list is what is wanted and cited of another, each wanted formula holds under its new
-/// number exactly where it held.
-pub fn cited_formulas_keep_their_truths<P>()
-    ensures { CitedFormulasKeepTheirTruths P }
-{}
-
-/// Such a list has no other modalities, and is no longer.
-pub fn cited_formulas_are_old()
-    ensures modalities { CitedModalitiesAreOld }
-    ensures no_more { CitedFormulasAreNoMore }
-{}

@@ -6,7 +6,7 @@ use Rattle.sorted_systems.specs.Systems.{system_from}
 use Rattle.formula_builder.specs.Books.{IsBegun}
 use Rattle.formula_builder.specs.SortedLayers.{BlocksAreTold}
 use Rattle.formula_builder.specs.Making.{book_of, round_seen}
-use Rattle.formula_builder.proofs.Steps.{start_at, starts_in, ready_at, step_at, end_at, few_at, few_starts}
+use Rattle.formula_builder.proofs.Steps.{start_at, starts_in, ready_at, step_at, end_at, few_at, few_starts, system_length, few_in_system}
 use Rattle.formula_builder.proofs.building.build.Goals as goal
 
 pub started-requires-clause-in_range : goal.started-requires-clause-in_range
@@ -25,7 +25,12 @@ started-requires-clause-few g c =
     (system_from 0 c.args.shapes.now c.args.store.now.1) c.args.refined.now c.requires.legal.0
     c.requires.legal.1 c.requires.legal.2 in
     let size = ap (λ (ps : List Start). length ps) c.start.ensures in
-    omega (arith, few, size, c.requires.few_states)
+    omega (
+      arith,
+      few,
+      size,
+      few_in_system c.args.shapes.now c.args.store.now.1 c.requires.few_states,
+    )
 
 pub loop-k-init : goal.loop-k-init
 loop-k-init g c = record {
@@ -46,7 +51,7 @@ tell_round-requires-clause-tellable g c =
     (system_from 0 c.args.shapes.now c.args.store.now.1) c.loop-k.k
     c.args.refined.now.rounds c.args.refined.now.block_of c.args.refined.now.blocks
     (book_of c.loop-k.notes) c.loop-k.invariant.at c.requires.legal.2.numbers
-    c.requires.few_states r
+    (few_in_system c.args.shapes.now c.args.store.now.1 c.requires.few_states) r
     (slice_get_within c.args.refined.now.rounds c.loop-k.k r c.round-round.ensures)
     (sym (get_or_from_slice_get c.args.refined.now.rounds c.loop-k.k r r c.round-round.ensures))
 
@@ -57,7 +62,7 @@ loop-k-preserved g c = record {
       (system_from 0 c.args.shapes.now c.args.store.now.1) c.loop-k.k
       c.args.refined.now.rounds c.args.refined.now.block_of c.args.refined.now.blocks
       (book_of c.loop-k.notes) c.loop-k.invariant.at c.requires.legal.2.numbers
-      c.requires.few_states r
+      (few_in_system c.args.shapes.now c.args.store.now.1 c.requires.few_states) r
       (slice_get_within c.args.refined.now.rounds c.loop-k.k r c.round-round.ensures)
       (sym (get_or_from_slice_get c.args.refined.now.rounds c.loop-k.k r r
       c.round-round.ensures))
@@ -79,7 +84,8 @@ returns-clause-told g c =
 
 pub returns-clause-few : goal.returns-clause-few
 returns-clause-few g c =
-    few_at (g.I.Iface.node c.args.iface.now) (g.I.Iface.value c.args.iface.now)
+    let few = few_at (g.I.Iface.node c.args.iface.now) (g.I.Iface.value c.args.iface.now)
     (system_from 0 c.args.shapes.now c.args.store.now.1) c.loop-k.k
     c.args.refined.now.rounds c.args.refined.now.block_of c.args.refined.now.blocks
-    (book_of c.loop-k.notes) c.loop-k.invariant.at
+    (book_of c.loop-k.notes) c.loop-k.invariant.at in
+    omega (arith, few, system_length 0 c.args.shapes.now c.args.store.now.1)

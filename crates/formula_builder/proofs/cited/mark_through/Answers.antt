@@ -5,7 +5,8 @@ use Rattle.formula_builder.proofs.cited.mark_through.Goals as goal
 
 pub mark_cited-requires : goal.mark_cited-requires
 mark_cited-requires c =
-    cites-more c.formula.result.now c.args.k _ (omega (arith, c.requires.there, c.requires.one_each))
+    cites-more c.formula.result.now c.args.k _
+    (omega (arith, c.requires.there, c.requires.one_each))
     (c.len-ordered.ensures.ordered c.args.k c.formula.result.now c.formula.ensures.there)
 
 pub returns-then-index-clause-closed : goal.returns-then-index-clause-closed

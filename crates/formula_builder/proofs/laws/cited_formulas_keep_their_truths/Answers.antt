@@ -2,7 +2,7 @@ use Rattle.std.proofs.Common.{◌∙◌, ap}
 use Rattle.std.specs.Prelude.{slice_index}
 use Rattle.formulas.specs.Truth.{holds}
 use Rattle.formula_builder.proofs.Renumbered.{kept_truth}
-use Rattle.formula_builder.proofs.cited.cited_formulas_keep_their_truths.Goals as goal
+use Rattle.formula_builder.proofs.laws.cited_formulas_keep_their_truths.Goals as goal
 
 pub returns : goal.returns
 returns g c w dag wanted small new ordered is i h x =
