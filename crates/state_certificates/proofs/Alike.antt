@@ -32,14 +32,14 @@ use Rattle.satisfaction.specs.Satisfaction.{layers_of}
 use Rattle.formula_builder.specs.SortedLayers.{sorted_layers}
 
 -- an element of a map, from what it is of and back
-map_at :
+pub map_at :
     {X Y : Type 0} (f : X → Y) (xs : List X) (i : ℕ) (x : X) → slice_get xs i ≡ Some x →
     slice_get (map f xs) i ≡ Some (f x)
 map_at f [] i x e = absurd (cc e)
 map_at f (y ∷ xs) zero x e = let same : y ≡ x = cc e in ap (λ z. Some (f z)) same
 map_at f (y ∷ xs) (suc i) x e = map_at f xs i x e
 
-map_back :
+pub map_back :
     {X Y : Type 0} (f : X → Y) (xs : List X) (i : ℕ) (y : Y) → slice_get (map f xs) i ≡ Some y →
     (x : X) × (slice_get xs i ≡ Some x) × (f x ≡ y)
 map_back f [] i y e = absurd (cc e)
@@ -52,12 +52,12 @@ singles [] = refl
 singles (x ∷ xs) = ap (λ ys. x ∷ ys) (singles xs)
 
 -- edges leave a structure at its children
-leaves_are : (t : Nodes) (n : ℕ) (x : Place) → leaves_within t n x ≡ children_of t x
+pub leaves_are : (t : Nodes) (n : ℕ) (x : Place) → leaves_within t n x ≡ children_of t x
 leaves_are t zero x = refl
 leaves_are t (suc n) x = singles (children_of t x)
 
 -- the node of a structure's shape
-node_of_shape : (m : Node) (p : ℕ) (v : Value) (k : ℕ) → any_node (shapes.shape_of m p v k) ≡ p
+pub node_of_shape : (m : Node) (p : ℕ) (v : Value) (k : ℕ) → any_node (shapes.shape_of m p v k) ≡ p
 node_of_shape State p v k = refl
 node_of_shape (Constant labels) p v k = refl
 node_of_shape Naturals p v k = refl
@@ -93,7 +93,7 @@ module _
   abbrev pub Stands : ℕ → Place → Type 0
   Stands x y = StandsFor desorted.occurrences x y.0 y.1
 
-  abbrev read : Sorted ℕ ℕ → Sorted AnyShape AnyLabel
+  abbrev pub read : Sorted ℕ ℕ → Sorted AnyShape AnyLabel
   read =
       decoded_state (shape_of s.iface.shapes.items)
       (label_of s.iface.shapes.items s.iface.weights.items)

@@ -1,5 +1,10 @@
 -- What is told of the sorted states holds of the states that they stand for.
-use Rattle.std.proofs.Common.{◌≡◌, ◌+◌, ◌<◌, ◌==◌, ℕ, zero, suc, false, length, slice_get, Some, refl, sym, ◌∙◌, ap, subst, arith}
+--
+-- root_truth       == a formula has one truth at a state and at its sorted state
+-- alike            == states are in one block exactly where they are equivalent
+-- states_told      == the formula of a state holds at exactly the states equivalent to it
+-- told_apart       == so it tells the state apart from each other one
+use Rattle.std.proofs.Common.{List, ◌≡◌, ◌+◌, ◌<◌, ◌==◌, ℕ, zero, suc, false, length, slice_get, Some, refl, sym, ◌∙◌, ap, subst, arith}
 use Rattle.std.specs.Prelude.{◌↔◌, slice_index}
 use Rattle.std.specs.Option.{option_map_or}
 use Rattle.std.proofs.lemmas.Bool.{eq-eqb, eqb-true}
@@ -9,7 +14,12 @@ use Rattle.typing.specs.declared.value.Value.{Value}
 use Rattle.typing.specs.Contents.{Content}
 use Rattle.typing.specs.Stable.{AreEquivalent}
 use Rattle.typing.proofs.StableLaws.{element}
-use Rattle.sorted_systems.specs.Systems.{class_in}
+use Rattle.sorted_systems.specs.Systems.{class_in, system_from}
+use Rattle.edge_store.specs.declared.edge.Edge.{Edge}
+use Rattle.decoding.specs.Decoded.{node_by, value_by}
+use Rattle.layers.specs.Nest.{any_node, any_value}
+use Rattle.layers.specs.Meanings.{shape_of, label_of}
+use Rattle.layers.specs.declared.layers.Layers.{Layers}
 use Rattle.refiner.specs.Recorded.{Answer}
 use Rattle.structures.specs.Structures.{numbers_on, numbers_below}
 use Rattle.desorting.specs.declared.system.System.{System}
@@ -25,6 +35,15 @@ use Rattle.formula_builder.specs.Certified.{Certified}
 use Rattle.state_certificates.specs.Certificates.{formula_of, StatesAreTold, TellApart}
 use Rattle.state_certificates.proofs.Alike.{node, value, Stands, state_of, standing-likeness}
 
+-- what is told over an interface, shapes and edges
+abbrev pub Told : Certified → Layers → List ℕ → ℕ × List (Edge ℕ) → Type 0
+Told cert i ss es =
+    BlocksAreTold
+    (node_by (shape_of i.shapes.items) (label_of i.shapes.items i.weights.items) any_node)
+    (value_by (shape_of i.shapes.items) (label_of i.shapes.items i.weights.items)
+    (any_value i.denominator)) (system_from 0 ss es.1) cert.dag cert.blocks cert.block_of
+
+-- the numbers from a first one, one by one
 number_at : (first n i : ℕ) → i < n → slice_index (numbers_on first n) i ≡ first + i
 number_at first zero i h = absurd (omega arith)
 number_at first (suc n) zero h = omega arith

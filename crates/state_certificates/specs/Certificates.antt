@@ -2,11 +2,22 @@
 --
 -- formula_of told i      == the number of the formula of state i
 -- StatesAreTold          == the formula of a state holds at exactly the states equivalent to it
--- TellApart              == of two states that are not equivalent, it holds at one and not at the other
-use Rattle.std.specs.Prelude.{◌↔◌, ◌<◌, ℕ, length, slice_index}
+-- TellApart              == it tells the state apart from each that is not equivalent to it
+-- HaveForms t dag        == each modality has the form of its node
+-- AreAtLayers t s        == each sorted state is a structure at a layer node
+use Rattle.std.specs.Prelude.{◌≡◌, List, Some, IsTrue, slice_get, ◌↔◌, ◌<◌, ℕ, length, slice_index}
 use Rattle.typing.specs.Contents.{Content}
 use Rattle.typing.specs.Stable.{AreEquivalent}
-use Rattle.sorted_systems.specs.Systems.{class_in}
+use Rattle.functor_terms.specs.Terms.{Nodes, node_at, children_at}
+use Rattle.modalities.specs.declared.three.Three.{Three}
+use Rattle.formulas.specs.declared.formula.Formula.{Formula}
+use Rattle.formulas.specs.declared.formula.Formula.TheVariants.{At}
+use Rattle.layers.specs.Nest.{any_node}
+use Rattle.layers.specs.Meanings.{shape_of}
+use Rattle.desorting.specs.declared.system.System.{System}
+use Rattle.desorting.specs.Desorted.{packed_system}
+use Rattle.satisfaction.specs.Modalities.{has_form, is_layer}
+use Rattle.sorted_systems.specs.Systems.{Sorted, IsState, class_in}
 use Rattle.formula_builder.specs.Certified.{Certified}
 use Rattle.satisfaction.specs.Satisfaction.{HoldsAt}
 
@@ -21,9 +32,23 @@ pub record StatesAreTold (c : Content) (told : Certified) : Type 0 where
       (i j : ℕ) → i < length c.values → j < length c.values →
       HoldsAt c told.dag (formula_of told i) j ↔ AreEquivalent c.term c.values i j
 
--- the formula of the first of two states that are not equivalent holds at it, and fails at the other
+-- the formula of the first of two states that are not equivalent holds at it, and fails at the
+-- other
 abbrev pub TellApart : Content → Certified → Type 0
 TellApart c told =
     (i j : ℕ) → i < length c.values → j < length c.values →
     (AreEquivalent c.term c.values i j → ⊥) →
     HoldsAt c told.dag (formula_of told i) i × (HoldsAt c told.dag (formula_of told i) j → ⊥)
+
+-- each modality is at a node of the term, and its value has the node's form
+abbrev pub HaveForms : Nodes → List Formula → Type 0
+HaveForms t dag =
+    (k q : ℕ) (v : Three) (splitter coarse : ℕ) →
+    slice_get dag k ≡ Some (At q v splitter coarse) →
+    (q < length t) × IsTrue (has_form (node_at t q) (length (children_at t q)) v)
+
+-- each sorted state is a structure at a layer node of the term
+abbrev pub AreAtLayers : Nodes → System → Type 0
+AreAtLayers t s =
+    (x : ℕ) (a : Sorted ℕ ℕ) → IsState (packed_system s) x a →
+    IsTrue (is_layer t (any_node (shape_of s.iface.shapes.items a.shape)))

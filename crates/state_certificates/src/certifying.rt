@@ -4,7 +4,8 @@ ghost use Rattle.std.specs.Prelude.{◌≡◌, ◌+◌, ◌*◌, ◌≤◌, leng
 ghost use Rattle.typing.specs.Contents.{content_of};
 ghost use Rattle.classes.specs.Refined.{IsRefined};
 ghost use Rattle.desorting.specs.Desorted.{IsDesorted};
-ghost use Rattle.state_certificates.specs.Certificates.{StatesAreTold, TellApart};
+ghost use Rattle.state_certificates.specs.Certificates.{StatesAreTold, TellApart, HaveForms, AreAtLayers};
+ghost use Rattle.satisfaction.specs.Modalities.{AllFit};
 
 use desorting::{
     System, greatest_is_equivalence, sorted_states_are_a_system, values_are_of_layers,
@@ -23,11 +24,13 @@ pub fn state_formulas(
     system: &System,
     refined: &Refined,
 ) -> Result<Certificates, AllocError>
-    requires desorted {
-        IsDesorted c.now.term c.now.values.items c.now.denominator system.now }
+    requires desorted { IsDesorted c.now.term c.now.values.items c.now.denominator system.now }
     requires refined { IsRefined system.now refined.now }
     ensures exact { IfOk result (λ told. StatesAreTold (content_of c.now) told) }
     ensures apart { IfOk result (λ told. TellApart (content_of c.now) told) }
+    ensures forms { IfOk result (λ told. HaveForms c.now.term told.dag) }
+    ensures fit { IfOk result (λ told.
+        AreAtLayers c.now.term system.now → AllFit c.now.term told.dag) }
     ensures few { IfOk result (λ told. length told.dag ≤ 6 * system.now.edges.0 + 1) }
     ensures same_blocks { IfOk result (λ told. told.block_of ≡ refined.now.block_of) }
 {

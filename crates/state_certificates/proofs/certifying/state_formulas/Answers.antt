@@ -9,8 +9,8 @@ use Rattle.layers.specs.Meanings.{shape_of, label_of, fits_layer}
 use Rattle.layers.specs.declared.layers.Layers.{Layers}
 use Rattle.classes.proofs.Along.{along}
 use Rattle.classes.proofs.Counting.{is_packed}
-use Rattle.formula_builder.specs.SortedLayers.{BlocksAreTold}
-use Rattle.state_certificates.proofs.States.{states_told, told_apart}
+use Rattle.state_certificates.proofs.Shown.{forms, all_fit}
+use Rattle.state_certificates.proofs.States.{Told, states_told, told_apart}
 use Rattle.state_certificates.proofs.certifying.state_formulas.Goals as goal
 
 pub build-requires-clause-system : goal.build-requires-clause-system
@@ -46,13 +46,8 @@ returns-clause-exact c =
     states_told (content_of c.args.c.now) c.args.system.now c.requires.desorted
     c.values_are_of_layers.ensures c.greatest_is_equivalence.ensures c.len-nodes.ensures.term
     c.args.refined.now c.requires.refined cert c.in_ok-told.ensures.same_blocks
-    (along
-    (λ (i : Layers) (ss : List ℕ) (es : ℕ × List (Edge ℕ)).
-    BlocksAreTold
-    (node_by (shape_of i.shapes.items) (label_of i.shapes.items i.weights.items) any_node)
-    (value_by (shape_of i.shapes.items) (label_of i.shapes.items i.weights.items)
-    (any_value i.denominator)) (system_from 0 ss es.1) cert.dag cert.blocks cert.block_of)
-    c.iface.ensures.iface c.shapes-shapes.ensures.shapes c.edges-edges.ensures.edges
+    (along (Told cert) c.iface.ensures.iface c.shapes-shapes.ensures.shapes
+    c.edges-edges.ensures.edges
     c.in_ok-told.ensures.told)
 
 pub returns-clause-apart : goal.returns-clause-apart
@@ -61,11 +56,26 @@ returns-clause-apart c =
     told_apart (content_of c.args.c.now) c.args.system.now c.requires.desorted
     c.values_are_of_layers.ensures c.greatest_is_equivalence.ensures c.len-nodes.ensures.term
     c.args.refined.now c.requires.refined cert c.in_ok-told.ensures.same_blocks
-    (along
-    (λ (i : Layers) (ss : List ℕ) (es : ℕ × List (Edge ℕ)).
-    BlocksAreTold
-    (node_by (shape_of i.shapes.items) (label_of i.shapes.items i.weights.items) any_node)
-    (value_by (shape_of i.shapes.items) (label_of i.shapes.items i.weights.items)
-    (any_value i.denominator)) (system_from 0 ss es.1) cert.dag cert.blocks cert.block_of)
-    c.iface.ensures.iface c.shapes-shapes.ensures.shapes c.edges-edges.ensures.edges
+    (along (Told cert) c.iface.ensures.iface c.shapes-shapes.ensures.shapes
+    c.edges-edges.ensures.edges
+    c.in_ok-told.ensures.told)
+
+pub returns-clause-forms : goal.returns-clause-forms
+returns-clause-forms c =
+    let cert = c.in_ok-told.told in
+    forms c.args.c.now.term c.len-nodes.ensures.term c.args.c.now.denominator
+    c.args.c.now.values.items c.args.system.now c.requires.desorted
+    c.values_are_of_layers.ensures cert.dag cert.blocks cert.block_of
+    (along (Told cert) c.iface.ensures.iface c.shapes-shapes.ensures.shapes
+    c.edges-edges.ensures.edges
+    c.in_ok-told.ensures.told)
+
+pub returns-clause-fit : goal.returns-clause-fit
+returns-clause-fit c =
+    let cert = c.in_ok-told.told in
+    all_fit c.args.c.now.term c.len-nodes.ensures.term c.args.c.now.denominator
+    c.args.c.now.values.items c.args.system.now c.requires.desorted
+    c.values_are_of_layers.ensures cert.dag cert.blocks cert.block_of
+    (along (Told cert) c.iface.ensures.iface c.shapes-shapes.ensures.shapes
+    c.edges-edges.ensures.edges
     c.in_ok-told.ensures.told)
