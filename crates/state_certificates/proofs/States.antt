@@ -129,7 +129,7 @@ module _
       )
 
   pub states_told : StatesAreTold c cert
-  states_told = record { there = there; exactly = block_truth }
+  states_told = record { there = there; exactly = block_truth; blocks = alike }
 
   pub told_apart : TellApart c cert
   told_apart i j hi hj apart = (

@@ -9,5 +9,7 @@
 #![tactic(auto)]
 
 mod certifying;
+mod separating;
 
 pub use certifying::state_formulas;
+pub use separating::{Separation, separating_formula};
