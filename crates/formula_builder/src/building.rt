@@ -87,9 +87,9 @@ fn started(alloc: Global, start: &[Start], blocks: u32) -> Result<Notes, AllocEr
     Ok(notes)
 }
 
-/// The formulas of a legal history of rounds: of each last block a formula that holds at exactly its
-/// members. The shapes and edges are the system whose history it is; they are not looked at. There
-/// are fewer than 2^26 states. The error is want of memory.
+/// The formulas of a legal history of rounds: of each last block a formula that holds at exactly
+/// its members. The shapes and edges are the system whose history it is; they are not looked at.
+/// There are fewer than 2^26 states. The error is want of memory.
 ///
 /// It takes one step for each start block, round and part, and one for each state.
 pub fn build<I: Iface>(

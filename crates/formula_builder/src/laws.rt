@@ -1,5 +1,5 @@
-//! Laws of the definitions, each the contract of a function that does nothing. `P` are the points of
-//! layered structures, `S` and `L` the shapes and labels of a system.
+//! Laws of the definitions, each the contract of a function that does nothing. `P` are the points
+//! of layered structures, `S` and `L` the shapes and labels of a system.
 ghost use Rattle.formula_builder.specs.CitedLaws.{CitedFormulasKeepTheirTruths, CitedModalitiesAreOld, CitedFormulasAreNoMore};
 ghost use Rattle.formula_builder.specs.SortedLayers.{ToldBlocksSeparate};
 

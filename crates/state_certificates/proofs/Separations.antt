@@ -2,12 +2,14 @@
 --
 -- kept_at          == a formula that is cut out holds at the same states
 -- separates        == so it tells the same states apart
+-- separate         == states are equivalent exactly where no formula tells them apart
 -- still_fits       == and its modalities fit as before
 use Rattle.std.proofs.Common.{◌≡◌, ◌<◌, ℕ, false, List, [], ◌∷◌, length, refl, sym, ◌∙◌, ap, arith}
 use Rattle.std.specs.Prelude.{slice_index, slice_get}
 use Rattle.std.specs.Option.{option_map_or}
-use Rattle.functor_terms.specs.Terms.{Nodes}
+use Rattle.functor_terms.specs.Terms.{Nodes, IsTerm}
 use Rattle.typing.specs.Contents.{Content}
+use Rattle.typing.specs.Laws.{AreInRange}
 use Rattle.typing.specs.Layers.{Place}
 use Rattle.sorted_systems.specs.Systems.{class_in}
 use Rattle.formulas.specs.declared.formula.Formula.{Formula}
@@ -15,11 +17,12 @@ use Rattle.formulas.specs.declared.formula.Formula.TheVariants.{True, Not, And, 
 use Rattle.formulas.specs.Formulas.{IsDag}
 use Rattle.formulas.specs.Truth.{holds}
 use Rattle.satisfaction.specs.Modalities.{fits_term, AllFit}
+use Rattle.satisfaction.specs.Laws.{TheSameOfCoalgebras}
 use Rattle.satisfaction.specs.Satisfaction.{layers_of, holds_at}
 use Rattle.formula_builder.specs.Certified.{Certified}
 use Rattle.formula_builder.specs.Cited.{renumbered, IsOnlyCited}
 use Rattle.formula_builder.proofs.Renumbered.{kept_truth}
-use Rattle.state_certificates.specs.Certificates.{formula_of, StatesAreTold, IsSeparation}
+use Rattle.state_certificates.specs.Certificates.{formula_of, StatesAreTold, IsSeparation, FormulasSeparate}
 
 -- one number is all of a list of length one
 pub only_one : (xs : List ℕ) → length xs ≡ 1 → xs ≡ slice_index xs 0 ∷ []
@@ -70,3 +73,14 @@ separates c told exact ordered i j hi hj apart k is small n cut = record {
       ∙ h)));
   cited = cut.cited;
 }
+
+-- states are equivalent exactly where no formula tells them apart
+pub separate :
+    TheSameOfCoalgebras → (c : Content) → IsTerm c.term → AreInRange c.values →
+    (told : Certified) → StatesAreTold c told → IsDag told.dag → FormulasSeparate c
+separate law c term within told exact ordered i j hi hj = (
+  λ alike dag is k h. law c term within dag is k h i j alike,
+  λ same. (exact.exactly i j hi hj).0
+      ((same told.dag ordered (formula_of told i) (exact.there i hi)).0
+      ((exact.exactly i i hi hi).1 ((exact.blocks i i hi hi).0 refl))),
+)

@@ -3,6 +3,8 @@
 -- formula_of told i      == the number of the formula of state i
 -- StatesAreTold          == the formula of a state holds at exactly the states equivalent to it
 -- TellApart              == it tells the state apart from each that is not equivalent to it
+-- HaveOneTruth c i j     == no formula tells the two states apart
+-- FormulasSeparate c     == that is so exactly where they are equivalent
 -- HaveForms t dag        == each modality has the form of its node
 -- IsSeparation           == a formula tells two states apart, and its list has nothing else
 -- AreAtLayers t s        == each sorted state is a structure at a layer node
@@ -13,6 +15,7 @@ use Rattle.functor_terms.specs.Terms.{Nodes, node_at, children_at}
 use Rattle.modalities.specs.declared.three.Three.{Three}
 use Rattle.formulas.specs.declared.formula.Formula.{Formula}
 use Rattle.formulas.specs.declared.formula.Formula.TheVariants.{At}
+use Rattle.formulas.specs.Formulas.{IsDag}
 use Rattle.layers.specs.Nest.{any_node}
 use Rattle.layers.specs.Meanings.{shape_of}
 use Rattle.desorting.specs.declared.system.System.{System}
@@ -27,8 +30,8 @@ use Rattle.satisfaction.specs.Satisfaction.{HoldsAt}
 abbrev pub formula_of : Certified → ℕ → ℕ
 formula_of told i = slice_index told.blocks (class_in told.block_of i)
 
--- The formula of a state is there, and holds at exactly the states that are equivalent to it. States
--- are in one block exactly where they are equivalent.
+-- The formula of a state is there, and holds at exactly the states that are equivalent to it.
+-- States are in one block exactly where they are equivalent.
 pub record StatesAreTold (c : Content) (told : Certified) : Type 0 where
   pub there : (i : ℕ) → i < length c.values → formula_of told i < length told.dag
   pub exactly :
@@ -66,3 +69,15 @@ pub record IsSeparation (c : Content) (i j : ℕ) (dag : List Formula) (k : ℕ)
   pub holds : HoldsAt c dag k i
   pub fails : HoldsAt c dag k j → ⊥
   pub cited : (n : ℕ) → n < length dag → IsCited dag (k ∷ []) n
+
+-- each formula of each list holds at both states, or at none
+abbrev pub HaveOneTruth : Content → ℕ → ℕ → Type 0
+HaveOneTruth c i j =
+    (dag : List Formula) → IsDag dag → (k : ℕ) → k < length dag →
+    HoldsAt c dag k i ↔ HoldsAt c dag k j
+
+-- states are equivalent exactly where no formula tells them apart
+abbrev pub FormulasSeparate : Content → Type 0
+FormulasSeparate c =
+    (i j : ℕ) → i < length c.values → j < length c.values →
+    AreEquivalent c.term c.values i j ↔ HaveOneTruth c i j

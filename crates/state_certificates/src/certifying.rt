@@ -4,7 +4,7 @@ ghost use Rattle.std.specs.Prelude.{◌≡◌, ◌+◌, ◌*◌, ◌≤◌, leng
 ghost use Rattle.typing.specs.Contents.{content_of};
 ghost use Rattle.classes.specs.Refined.{IsRefined};
 ghost use Rattle.desorting.specs.Desorted.{IsDesorted};
-ghost use Rattle.state_certificates.specs.Certificates.{StatesAreTold, TellApart, HaveForms, AreAtLayers};
+ghost use Rattle.state_certificates.specs.Certificates.{StatesAreTold, TellApart, FormulasSeparate, HaveForms, AreAtLayers};
 ghost use Rattle.satisfaction.specs.Modalities.{AllFit};
 
 use desorting::{
@@ -12,6 +12,7 @@ use desorting::{
 };
 use formula_builder::{Certificates, build};
 use refiner::Refined;
+use satisfaction::equivalent_states_have_one_truth;
 use std::alloc::{AllocError, Global};
 use typing::Coalgebra;
 
@@ -28,6 +29,7 @@ pub fn state_formulas(
     requires refined { IsRefined system.now refined.now }
     ensures exact { IfOk result (λ told. StatesAreTold (content_of c.now) told) }
     ensures apart { IfOk result (λ told. TellApart (content_of c.now) told) }
+    ensures separate { IfOk result (λ _. FormulasSeparate (content_of c.now)) }
     ensures forms { IfOk result (λ told. HaveForms c.now.term told.dag) }
     ensures fit { IfOk result (λ told.
         AreAtLayers c.now.term system.now → AllFit c.now.term told.dag) }
@@ -37,9 +39,12 @@ pub fn state_formulas(
     sorted_states_are_a_system();
     greatest_is_equivalence();
     values_are_of_layers();
+    equivalent_states_have_one_truth();
     let _nodes = c.term.len();
     let shapes = system.shapes();
     let edges = system.edges();
     let told = build(alloc, system.iface(), shapes, edges, refined)?;
+    // The formulas stand in their order.
+    let _ordered = told.dag().len();
     Ok(told)
 }

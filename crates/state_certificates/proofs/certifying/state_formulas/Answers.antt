@@ -1,4 +1,4 @@
-use Rattle.std.proofs.Common.{ℕ, List, sym}
+use Rattle.std.proofs.Common.{subst, ℕ, List, sym}
 use Rattle.typing.specs.Contents.{content_of}
 use Rattle.edge_store.specs.declared.edge.Edge.{Edge}
 use Rattle.sorted_systems.specs.Systems.{IsSystem, system_from}
@@ -9,6 +9,10 @@ use Rattle.layers.specs.Meanings.{shape_of, label_of, fits_layer}
 use Rattle.layers.specs.declared.layers.Layers.{Layers}
 use Rattle.classes.proofs.Along.{along}
 use Rattle.classes.proofs.Counting.{is_packed}
+use Rattle.typing.proofs.Within.{each_below}
+use Rattle.formulas.specs.declared.formula.Formula.{Formula}
+use Rattle.formulas.specs.Formulas.{IsDag}
+use Rattle.state_certificates.proofs.Separations.{separate}
 use Rattle.state_certificates.proofs.Shown.{forms, all_fit}
 use Rattle.state_certificates.proofs.States.{Told, states_told, told_apart}
 use Rattle.state_certificates.proofs.certifying.state_formulas.Goals as goal
@@ -49,6 +53,19 @@ returns-clause-exact c =
     (along (Told cert) c.iface.ensures.iface c.shapes-shapes.ensures.shapes
     c.edges-edges.ensures.edges
     c.in_ok-told.ensures.told)
+
+pub returns-clause-separate : goal.returns-clause-separate
+returns-clause-separate c =
+    let now = c.args.c.now in
+    let cert = c.in_ok-told.told in
+    separate c.equivalent_states_have_one_truth.ensures.content (content_of now)
+    c.len-nodes.ensures.term (each_below now.values.items _ now.one_each now.in_range) cert
+    (states_told (content_of now) c.args.system.now c.requires.desorted
+    c.values_are_of_layers.ensures c.greatest_is_equivalence.ensures c.len-nodes.ensures.term
+    c.args.refined.now c.requires.refined cert c.in_ok-told.ensures.same_blocks
+    (along (Told cert) c.iface.ensures.iface c.shapes-shapes.ensures.shapes
+    c.edges-edges.ensures.edges c.in_ok-told.ensures.told))
+    (subst (λ (fs : List Formula). IsDag fs) c.dag.ensures c.len-ordered.ensures.ordered)
 
 pub returns-clause-apart : goal.returns-clause-apart
 returns-clause-apart c =
