@@ -1,5 +1,5 @@
-//! Worked rows of the refinement interface: each is run at one interface, or at the sum of two, by a
-//! function that knows only the trait.
+//! Worked rows of the refinement interface: each is run at one interface, or at the sum of two, by
+//! a function that knows only the trait.
 #![tactic(auto)]
 
 mod round;

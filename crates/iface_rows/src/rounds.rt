@@ -21,8 +21,9 @@ pub struct Rounds<W> {
     pub rest: W,
 }
 
-/// Takes a splitter out of the block of all states, and then another one out of what is left, at one
-/// structure. The weight towards all states is asked for a second time, since a round changes it.
+/// Takes a splitter out of the block of all states, and then another one out of what is left, at
+/// one structure. The weight towards all states is asked for a second time, since a round changes
+/// it.
 pub fn two_rounds<I: Iface, L: Ledger>(
     alloc: Global,
     iface: &I,

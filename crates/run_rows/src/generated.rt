@@ -1,5 +1,5 @@
-//! Generated files over twenty-one functors: what a run prints, beside the classes that the definition's
-//! slow program finds, and beside what a run on its own output prints.
+//! Generated files over twenty-one functors: what a run prints, beside the classes that the slow
+//! program of the definitions finds, and beside what a run on its own output prints.
 ghost use Rattle.std.specs.Prelude.{◌≤◌, ◌<◌, ◌^◌, length};
 
 use crate::families::FAMILIES;

@@ -1,0 +1,4 @@
+pub mod Alike
+pub mod Separations
+pub mod Shown
+pub mod States

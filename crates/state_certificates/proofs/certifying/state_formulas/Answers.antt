@@ -1,0 +1,98 @@
+use Rattle.std.proofs.Common.{subst, ℕ, List, sym}
+use Rattle.typing.specs.Contents.{content_of}
+use Rattle.edge_store.specs.declared.edge.Edge.{Edge}
+use Rattle.sorted_systems.specs.Systems.{IsSystem, system_from}
+use Rattle.refiner.specs.History.{IsLegal}
+use Rattle.decoding.specs.Decoded.{node_by, kin_by, value_by}
+use Rattle.layers.specs.Nest.{any_node, any_kin, any_value}
+use Rattle.layers.specs.Meanings.{shape_of, label_of, fits_layer}
+use Rattle.layers.specs.declared.layers.Layers.{Layers}
+use Rattle.classes.proofs.Along.{along}
+use Rattle.classes.proofs.Counting.{is_packed}
+use Rattle.typing.proofs.Within.{each_below}
+use Rattle.formulas.specs.declared.formula.Formula.{Formula}
+use Rattle.formulas.specs.Formulas.{IsDag}
+use Rattle.state_certificates.proofs.Separations.{separate}
+use Rattle.state_certificates.proofs.Shown.{forms, all_fit}
+use Rattle.state_certificates.proofs.States.{Told, states_told, told_apart}
+use Rattle.state_certificates.proofs.certifying.state_formulas.Goals as goal
+
+pub build-requires-clause-system : goal.build-requires-clause-system
+build-requires-clause-system c =
+    along
+    (λ (i : Layers) (ss : List ℕ) (es : ℕ × List (Edge ℕ)).
+    IsSystem (node_by (shape_of i.shapes.items) (label_of i.shapes.items i.weights.items) any_node)
+    (kin_by (shape_of i.shapes.items) (label_of i.shapes.items i.weights.items) any_kin)
+    (fits_layer i.shapes.items i.weights.items) (system_from 0 ss es.1))
+    (sym c.iface.ensures.iface) (sym c.shapes-shapes.ensures.shapes)
+    (sym c.edges-edges.ensures.edges)
+    (is_packed (content_of c.args.c.now) c.args.system.now c.requires.desorted
+    c.sorted_states_are_a_system.ensures c.len-nodes.ensures.term)
+
+pub build-requires-clause-legal : goal.build-requires-clause-legal
+build-requires-clause-legal c = (
+  c.requires.refined.first,
+  c.requires.refined.later,
+  along
+      (λ (i : Layers) (ss : List ℕ) (es : ℕ × List (Edge ℕ)).
+      IsLegal
+      (node_by (shape_of i.shapes.items) (label_of i.shapes.items i.weights.items) any_node)
+      (value_by (shape_of i.shapes.items) (label_of i.shapes.items i.weights.items)
+      (any_value i.denominator)) (system_from 0 ss es.1) c.args.refined.now
+      c.requires.refined.first c.requires.refined.later)
+      (sym c.iface.ensures.iface) (sym c.shapes-shapes.ensures.shapes)
+      (sym c.edges-edges.ensures.edges) c.requires.refined.legal,
+)
+
+pub returns-clause-exact : goal.returns-clause-exact
+returns-clause-exact c =
+    let cert = c.in_ok-told.told in
+    states_told (content_of c.args.c.now) c.args.system.now c.requires.desorted
+    c.values_are_of_layers.ensures c.greatest_is_equivalence.ensures c.len-nodes.ensures.term
+    c.args.refined.now c.requires.refined cert c.in_ok-told.ensures.same_blocks
+    (along (Told cert) c.iface.ensures.iface c.shapes-shapes.ensures.shapes
+    c.edges-edges.ensures.edges
+    c.in_ok-told.ensures.told)
+
+pub returns-clause-separate : goal.returns-clause-separate
+returns-clause-separate c =
+    let now = c.args.c.now in
+    let cert = c.in_ok-told.told in
+    separate c.equivalent_states_have_one_truth.ensures.content (content_of now)
+    c.len-nodes.ensures.term (each_below now.values.items _ now.one_each now.in_range) cert
+    (states_told (content_of now) c.args.system.now c.requires.desorted
+    c.values_are_of_layers.ensures c.greatest_is_equivalence.ensures c.len-nodes.ensures.term
+    c.args.refined.now c.requires.refined cert c.in_ok-told.ensures.same_blocks
+    (along (Told cert) c.iface.ensures.iface c.shapes-shapes.ensures.shapes
+    c.edges-edges.ensures.edges c.in_ok-told.ensures.told))
+    (subst (λ (fs : List Formula). IsDag fs) c.dag.ensures c.len-ordered.ensures.ordered)
+
+pub returns-clause-apart : goal.returns-clause-apart
+returns-clause-apart c =
+    let cert = c.in_ok-told.told in
+    told_apart (content_of c.args.c.now) c.args.system.now c.requires.desorted
+    c.values_are_of_layers.ensures c.greatest_is_equivalence.ensures c.len-nodes.ensures.term
+    c.args.refined.now c.requires.refined cert c.in_ok-told.ensures.same_blocks
+    (along (Told cert) c.iface.ensures.iface c.shapes-shapes.ensures.shapes
+    c.edges-edges.ensures.edges
+    c.in_ok-told.ensures.told)
+
+pub returns-clause-forms : goal.returns-clause-forms
+returns-clause-forms c =
+    let cert = c.in_ok-told.told in
+    forms c.args.c.now.term c.len-nodes.ensures.term c.args.c.now.denominator
+    c.args.c.now.values.items c.args.system.now c.requires.desorted
+    c.values_are_of_layers.ensures cert.dag cert.blocks cert.block_of
+    (along (Told cert) c.iface.ensures.iface c.shapes-shapes.ensures.shapes
+    c.edges-edges.ensures.edges
+    c.in_ok-told.ensures.told)
+
+pub returns-clause-fit : goal.returns-clause-fit
+returns-clause-fit c =
+    let cert = c.in_ok-told.told in
+    all_fit c.args.c.now.term c.len-nodes.ensures.term c.args.c.now.denominator
+    c.args.c.now.values.items c.args.system.now c.requires.desorted
+    c.values_are_of_layers.ensures cert.dag cert.blocks cert.block_of
+    (along (Told cert) c.iface.ensures.iface c.shapes-shapes.ensures.shapes
+    c.edges-edges.ensures.edges
+    c.in_ok-told.ensures.told)

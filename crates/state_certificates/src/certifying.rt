@@ -1,0 +1,50 @@
+//! The formulas of the blocks, as those of the states.
+
+ghost use Rattle.std.specs.Prelude.{◌≡◌, ◌+◌, ◌*◌, ◌≤◌, length, IfOk};
+ghost use Rattle.typing.specs.Contents.{content_of};
+ghost use Rattle.classes.specs.Refined.{IsRefined};
+ghost use Rattle.desorting.specs.Desorted.{IsDesorted};
+ghost use Rattle.state_certificates.specs.Certificates.{StatesAreTold, TellApart, FormulasSeparate, HaveForms, AreAtLayers};
+ghost use Rattle.satisfaction.specs.Modalities.{AllFit};
+
+use desorting::{
+    System, greatest_is_equivalence, sorted_states_are_a_system, values_are_of_layers,
+};
+use formula_builder::{Certificates, build};
+use refiner::Refined;
+use satisfaction::equivalent_states_have_one_truth;
+use std::alloc::{AllocError, Global};
+use typing::Coalgebra;
+
+/// Formulas of the states of a coalgebra: that of a state holds at exactly the states that are
+/// equivalent to it. The system is that of the coalgebra's structures, refined; state i has the
+/// sorted state i. The error is want of memory.
+pub fn state_formulas(
+    alloc: Global,
+    c: &Coalgebra,
+    system: &System,
+    refined: &Refined,
+) -> Result<Certificates, AllocError>
+    requires desorted { IsDesorted c.now.term c.now.values.items c.now.denominator system.now }
+    requires refined { IsRefined system.now refined.now }
+    ensures exact { IfOk result (λ told. StatesAreTold (content_of c.now) told) }
+    ensures apart { IfOk result (λ told. TellApart (content_of c.now) told) }
+    ensures separate { IfOk result (λ _. FormulasSeparate (content_of c.now)) }
+    ensures forms { IfOk result (λ told. HaveForms c.now.term told.dag) }
+    ensures fit { IfOk result (λ told.
+        AreAtLayers c.now.term system.now → AllFit c.now.term told.dag) }
+    ensures few { IfOk result (λ told. length told.dag ≤ 6 * system.now.edges.0 + 1) }
+    ensures same_blocks { IfOk result (λ told. told.block_of ≡ refined.now.block_of) }
+{
+    sorted_states_are_a_system();
+    greatest_is_equivalence();
+    values_are_of_layers();
+    equivalent_states_have_one_truth();
+    let _nodes = c.term.len();
+    let shapes = system.shapes();
+    let edges = system.edges();
+    let told = build(alloc, system.iface(), shapes, edges, refined)?;
+    // The formulas stand in their order.
+    let _ordered = told.dag().len();
+    Ok(told)
+}
