@@ -46,8 +46,8 @@ fn told(rt: &impl Abort, alloc: Global, file: &[u8]) -> Result<String, AllocErro
     }
 }
 
-/// The nodes of the sorted states of a file's system in order, and then its edges; a file that is not
-/// read has none.
+/// The nodes of the sorted states of a file's system in order, and then its edges; a file that is
+/// not read has none.
 fn told_by_node(alloc: Global, file: &[u8]) -> Result<String, AllocError> {
     let mut text = String::new(alloc);
     if LONGEST < file.len() {
@@ -85,8 +85,8 @@ const NODES: &[(&str, &[u8], &str)] = &[
     (
         "a probabilistic automaton",
         b"P({coin,tea} x D X)\ni: {(coin, {r: 9/10, i: 1/10})}\nr: {(tea, {s: 1})}\n\
-        s: {(coin, {q: 0.9, j: 0.1})}\nj: {(coin, {r: 0.9, s: 0.1})}\nq: {(tea, {i: 0.5, j: 0.5})}\n\
-        b: {}\n",
+        s: {(coin, {q: 0.9, j: 0.1})}\nj: {(coin, {r: 0.9, s: 0.1})}\n\
+        q: {(tea, {i: 0.5, j: 0.5})}\nb: {}\n",
         "0 0 0 0 0 0 1 1 1 1 1 2 3 2 3 2 3 2 3 2 3 \
         21 24 0-6 1-7 2-8 3-9 4-10 6-11 6-12 7-13 7-14 8-15 8-16 9-17 9-18 10-19 10-20 12-0 12-1 \
         14-2 16-3 16-4 18-1 18-2 20-0 20-3",

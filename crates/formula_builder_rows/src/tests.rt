@@ -1,5 +1,5 @@
-//! What no clause says: that the calls succeed with ample memory. The expected lists were worked out
-//! by hand.
+//! What no clause says: that the calls succeed with ample memory. The expected lists were worked
+//! out by hand.
 
 ghost use Rattle.std.specs.Prelude.{◌≡◌, length, IfOk};
 

@@ -458,7 +458,8 @@ pub(crate) const MINIMISED: &[(&str, &[u8], &[u8])] = &[
     (
         "a machine for drinks",
         DRINKS,
-        b"P ({coin,tea} x D X)\nidle: {(coin, {idle: 1/10, ready: 9/10})}\nready: {(tea, {idle: 1})}\nbroken: {}\n",
+        b"P ({coin,tea} x D X)\nidle: {(coin, {idle: 1/10, ready: 9/10})}\n\
+        ready: {(tea, {idle: 1})}\nbroken: {}\n",
     ),
     (
         "a sum",

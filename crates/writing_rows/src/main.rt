@@ -1,6 +1,6 @@
 //! Files, and the canonical text of what they are read as. Each line of the input is a file, in
-//! which `;` stands for a line feed. The answer is the text, written so too, or `refused` where the file
-//! has a fault. Behind it stands `, then ..` where the text is read and written as another.
+//! which `;` stands for a line feed. The answer is the text, written so too, or `refused` where the
+//! file has a fault. Behind it stands `, then ..` where the text is read and written as another.
 #![tactic(auto)]
 
 use std::alloc::{AllocError, Global};
