@@ -1,0 +1,4 @@
+pub mod Pushed
+pub mod NumberLaws
+pub mod ValueLaws
+pub mod ReadBack
