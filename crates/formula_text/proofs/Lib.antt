@@ -2,3 +2,4 @@ pub mod Pushed
 pub mod NumberLaws
 pub mod ValueLaws
 pub mod ReadBack
+pub mod DigitLaws

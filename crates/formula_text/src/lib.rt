@@ -2,6 +2,9 @@
 #![tactic(auto)]
 
 mod laws;
+mod numbers;
+mod pieces;
+mod values;
 mod writing;
 
 pub use laws::dag_texts_are_read;

@@ -171,7 +171,7 @@ fn push_later_trits(text: &mut Vec<u8>, trits: &[u8]) -> Result<(), AllocError>
 }
 
 /// The text of the set with this number.
-fn set_text(bits: u8) -> &'static [u8]
+pub fn set_text(bits: u8) -> &'static [u8]
     ensures text { result.now ≡ text_at set_texts bits }
 {
     match bits {
