@@ -1,5 +1,5 @@
 -- How numbers in parts are read, digit by digit.
-use Rattle.std.proofs.Common.{◌≡◌, ℕ, zero, suc, ◌+◌, ◌-◌, ◌*◌, ◌%◌, ◌<◌, ◌≤◌, Bool, true, false, ◌&&◌, List, [], ◌∷◌, length, drop, get_or, drop-cons, Some, None, refl, ap, sym, ◌∙◌, arith}
+use Rattle.std.proofs.Common.{◌≡◌, ℕ, suc, ◌+◌, ◌-◌, ◌*◌, ◌%◌, ◌<◌, ◌≤◌, Bool, true, false, ◌&&◌, List, [], ◌∷◌, length, drop, drop-cons, Some, None, refl, ap, sym, ◌∙◌, arith}
 use Rattle.std.specs.Prelude.{if◌then◌else◌, nat_lt, slice_index, ◌==◌, ◌≢◌, ◌++◌, option_map}
 use Rattle.std.specs.Fmt.{decimal}
 use Rattle.std.proofs.lemmas.Bool.Decides.{nat_tests}
@@ -8,7 +8,7 @@ use Rattle.weights.specs.Fractions.{gcd_of}
 use Rattle.weights.specs.FractionLaws.{gcd_of-IsGcd, gcd_of_is}
 use Rattle.weights.specs.Numerals.{number_after, number_of}
 use Rattle.formula_text.specs.Values.{before_end}
-use Rattle.formula_text.specs.Numbers.{is_same, number_if, number_below}
+use Rattle.formula_text.specs.Numbers.{is_same, number_below}
 
 -- more digits make no number smaller
 after-le : (n : ℕ) (ds : List ℕ) → n ≤ number_after n ds

@@ -3,3 +3,5 @@ pub mod NumberLaws
 pub mod ValueLaws
 pub mod ReadBack
 pub mod DigitLaws
+pub mod LineLaws
+pub mod ReadLaws

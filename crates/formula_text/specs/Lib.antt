@@ -3,3 +3,5 @@ pub mod Values
 pub mod Answers
 pub mod Texts
 pub mod Laws
+pub mod Said
+pub mod Reading

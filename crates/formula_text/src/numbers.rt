@@ -48,11 +48,7 @@ pub fn fraction_in(alloc: Global, part: &[u8]) -> Result<Option<Ratio>, AllocErr
 }
 
 /// The fraction that the bytes behind the sign spell.
-fn fraction_behind(
-    alloc: Global,
-    negative: bool,
-    text: &[u8],
-) -> Result<Option<Ratio>, AllocError>
+fn fraction_behind(alloc: Global, negative: bool, text: &[u8]) -> Result<Option<Ratio>, AllocError>
     ensures { IfOk result (λ found. found ≡ behind_sign negative text.now) }
 {
     let found = pieces(alloc, text, b'/')?;
