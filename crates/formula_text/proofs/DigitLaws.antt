@@ -20,11 +20,14 @@ and-false true = refl
 and-false false = refl
 
 -- a number that is not below the bound is none
-pub number-over : (bound : ℕ) (part : List ℕ) → bound ≤ number_of part → None ≡ number_below bound part
+pub number-over :
+    (bound : ℕ) (part : List ℕ) → bound ≤ number_of part → None ≡ number_below bound part
 number-over bound part over =
+    let n : ℕ = number_of part in
+    let same : Bool = is_same (decimal n) part in
     let h : nat_lt (number_of part) bound ≡ false = grind (arith, nat_tests) in
-    sym (ap (λ b. if is_same (decimal (number_of part)) part && b then Some (number_of part) else None) h
-    ∙ ap (λ b. if b then Some (number_of part) else None) (and-false (is_same (decimal (number_of part)) part)))
+    sym (ap (λ b. if same && b then Some n else None) h
+    ∙ ap (λ b. if b then Some n else None) (and-false same))
 
 -- one more digit passes the bound
 pub digit-over :
@@ -32,14 +35,17 @@ pub digit-over :
     number_after n (drop i part) ≡ number_of part → s ≡ slice_index part i - 48 →
     bound ≤ n * 10 + s → None ≡ number_below bound part
 digit-over bound n i s part inside h is over =
-    let all : number_after (n * 10 + (slice_index part i - 48)) (drop (suc i) part) ≡ number_of part =
+    let m : ℕ = n * 10 + (slice_index part i - 48) in
+    let all : number_after m (drop (suc i) part) ≡ number_of part =
     ap (number_after n) (sym (drop-cons part i 0 inside)) ∙ h in
-    let grown = after-le (n * 10 + (slice_index part i - 48)) (drop (suc i) part) in
+    let grown : m ≤ number_after m (drop (suc i) part) = after-le m (drop (suc i) part) in
     number-over bound part (omega arith)
 
 -- Euclid's rule, one step
 pub gcd_step : (n d : ℕ) → 2 ≤ d → gcd_of n d ≡ gcd_of d (n % d)
-gcd_step n d two = sym (gcd_of_is n d (gcd_of d (n % d)) (IsGcd-from_mod n d (gcd_of d (n % d)) (gcd_of-IsGcd d (n % d))))
+gcd_step n d two =
+    let g : ℕ = gcd_of d (n % d) in
+    sym (gcd_of_is n d g (IsGcd-from_mod n d g (gcd_of-IsGcd d (n % d))))
 
 -- a list of bytes with a last one
 pub before_end-push :
@@ -70,7 +76,9 @@ pub before_end-same :
     Some front ≡ before_end b text
 before_end-same b last front text e same =
     let h : (last == b) ≡ true = grind (arith, nat_tests) in
-    sym (ap (before_end b) e ∙ before_end-push b last front ∙ ap (λ x. if x then Some front else None) h)
+    sym (ap (before_end b) e
+    ∙ before_end-push b last front
+    ∙ ap (λ x. if x then Some front else None) h)
 
 -- the last byte is another
 pub before_end-other :
@@ -78,4 +86,6 @@ pub before_end-other :
     None ≡ before_end b text
 before_end-other b last front text e other =
     let h : (last == b) ≡ false = grind (arith, nat_tests) in
-    sym (ap (before_end b) e ∙ before_end-push b last front ∙ ap (λ x. if x then Some front else None) h)
+    sym (ap (before_end b) e
+    ∙ before_end-push b last front
+    ∙ ap (λ x. if x then Some front else None) h)

@@ -110,7 +110,8 @@ behind-whole negative n small =
     (one_piece (λ b. b == slash) (decimal n)
     (list_all-weaker is_ascii_digit (λ x. not (x == slash)) no_slash (decimal n)
     (decimal_digits n low)))
-    ∙ ap (option_and_then (λ a. fraction negative a 1)) (number_below-decimal numerator_bound n bound low)
+    ∙ ap (option_and_then (λ a. fraction negative a 1))
+    (number_below-decimal numerator_bound n bound low)
 
 pub behind-over :
     (negative : Bool) (n d : ℕ) → n ≤ 2 ^ 106 → d ≤ 2 ^ 40 → 2 ≤ d → IsGcd n d 1 →
@@ -133,7 +134,8 @@ behind-over negative n d small few two apart =
     ∙ ap (option_and_then
     (λ a. option_and_then (lowest_over negative a) (number_below label_bound (decimal d))))
     (number_below-decimal numerator_bound n bound low)
-    ∙ ap (option_and_then (lowest_over negative n)) (number_below-decimal label_bound d within under)
+    ∙ ap (option_and_then (lowest_over negative n))
+    (number_below-decimal label_bound d within under)
     ∙ (λ i. if is_two i && lone i then fraction negative n d else None)
 
 -- what begins with a digit has no sign

@@ -194,7 +194,9 @@ few_more :
     length new.dag ≤ length old.dag + 1
 few_more old new n a put = by a (count_more old new n a put)
   where
-    by : (a : Answer) → count_with (length old.dag) a ≡ length new.dag → length new.dag ≤ length old.dag + 1
+    by :
+        (a : Answer) → count_with (length old.dag) a ≡ length new.dag →
+        length new.dag ≤ length old.dag + 1
     by (Defines f) e = omega arith
     by (Block f names) e = omega arith
     by (Separates x y f) e = omega arith

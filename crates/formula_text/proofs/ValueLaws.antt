@@ -79,7 +79,8 @@ fraction_bytes p q small few = by (q == 1)
         (if whole then signed_decimal p else signed_decimal p ++ 47 ∷ decimal q) ≡ true
     by true = signed p small
     by false =
-        all_joined is_of_fraction (signed_decimal p) (47 ∷ decimal q) (signed p small) (digits q few)
+        all_joined is_of_fraction (signed_decimal p) (47 ∷ decimal q) (signed p small)
+        (digits q few)
 
 -- ---- trits
 
@@ -114,7 +115,8 @@ later_is (t ∷ ts) =
     ∙ ap (λ rest. comma ∷ rest) (sym (append_assoc (decimal t) (later ts) (41 ∷ [])))
 
 -- the bytes before the last
-pub before_end-last : (xs : List ℕ) (b : ℕ) → (b == b) ≡ true → before_end b (xs ++ b ∷ []) ≡ Some xs
+pub before_end-last :
+    (xs : List ℕ) (b : ℕ) → (b == b) ≡ true → before_end b (xs ++ b ∷ []) ≡ Some xs
 before_end-last [] b e = ap (λ x. if x then Some [] else None) e
 before_end-last (x ∷ []) b e = ap (option_map (λ rest. x ∷ rest)) (before_end-last [] b e)
 before_end-last (x ∷ y ∷ xs) b e =

@@ -14,25 +14,31 @@ use Rattle.modalities.specs.declared.three.Three.TheVariants.{Label, Trit, Trits
 use Rattle.modalities.specs.Values.{triple}
 use Rattle.formula_text.specs.Numbers.{is_same, number_below, label_bound, fraction_in}
 
--- the bytes `=`, `:`, `,`, and those of the three pairs of brackets
+-- the byte `=`, with which a label begins
 abbrev pub equals_sign : ℕ
 equals_sign = 61
 
+-- the byte `:`, behind the index of a summand
 abbrev pub colon : ℕ
 colon = 58
 
+-- the byte `,`, between trits and between fractions
 abbrev pub comma : ℕ
 comma = 44
 
+-- the byte `(`, with which trits begin
 abbrev pub open_round : ℕ
 open_round = 40
 
+-- the byte `)`, with which trits end
 abbrev pub close_round : ℕ
 close_round = 41
 
+-- the byte `[`, with which three fractions begin
 abbrev pub open_square : ℕ
 open_square = 91
 
+-- the byte `]`, with which three fractions end
 abbrev pub close_square : ℕ
 close_square = 93
 

@@ -128,7 +128,8 @@ fn label_in(digits: &[u8]) -> Option<Three>
 /// The trits that the bytes behind `(` spell.
 fn trits_behind(alloc: Global, rest: &[u8]) -> Result<Option<Three>, AllocError>
     ensures { IfOk result (λ value. value ≡ option_and_then
-        (λ text. option_map Trits (are_trits (pieces_of text))) (before_last close_round rest.now)) }
+        (λ text. option_map Trits (are_trits (pieces_of text)))
+        (before_last close_round rest.now)) }
 {
     let Some(text) = before_end(rest, b')') else {
         return Ok(None);
