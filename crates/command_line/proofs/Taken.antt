@@ -1,11 +1,11 @@
 -- clap takes all words of which none begins with `-`, with or without `--stats` behind them, and
 -- their line has them as they stand.
-use Rattle.std.proofs.Common.{◌≡◌, ℕ, ◌==◌, ◌&&◌, Bool, true, false, not, List, [], ◌∷◌, ◌++◌, Option, Some, None, codes, refl, ap, sym, ◌∙◌, bytes_eq, fold, is_some, unwrap_or, append_assoc, subst}
+use Rattle.std.proofs.Common.{◌≡◌, ◌==◌, ◌&&◌, Bool, true, false, not, List, [], ◌∷◌, ◌++◌, Some, None, codes, refl, ap, sym, ◌∙◌, bytes_eq, fold, is_some, unwrap_or, append_assoc, subst}
 use Rattle.std.specs.List.{list_all}
-use Rattle.clap.specs.Words.{App, Rule, Text, Row, Kinds, built, fault_of, matches_of}
+use Rattle.clap.specs.Words.{Rule, Text, Row, Kinds, built}
 use Rattle.clap.specs.Kinds.{or_else}
 use Rattle.clap.specs.Lexer.{long_of, short_of}
-use Rattle.clap.specs.Walk.{Walk, Held, walked, walk, walk_from, nothing_held, settled, to_positional, arg_by_index, positional, finished, reading_by}
+use Rattle.clap.specs.Walk.{Walk, walked, walk, walk_from, nothing_held, settled, to_positional, arg_by_index, positional, finished, reading_by}
 use Rattle.clap.specs.Faults.{turn_fault, walk_fault, settle_fault, defaults_fault, check_fault, entered_fault}
 use Rattle.clap.specs.Simple.{Shape, entered}
 use Rattle.clap.specs.declared.parser.matches.ValueSource.TheVariants.{CommandLine}

@@ -4,13 +4,23 @@ use crate::parts::{Line, parts_of};
 use std::alloc::{AllocError, Global};
 
 /// The forms that are taken, and an example.
-const FORMS: &str = "usage: copar blocks FILE
-       copar minimise FILE
+const FORMS: &str = "usage: copar blocks FILE [--stats]
+       copar minimise FILE [--stats]
+       copar explain FILE STATE STATE [STATE STATE].. [--stats]
+       copar certify FILE [--stats]
+       copar check FILE FORMULAS STATE..
+       copar verify FILE ANSWER
   The file has a functor on its first line, and then a line for each state: its name, a colon,
   and its structure. Sets of states, as below, have the functor `P X`.
   blocks    prints for each state its name and the name of the first state that is equivalent
             to it
   minimise  prints the file with one state for each block, named by its first state
+  explain   prints for each pair of states that they are equivalent, or a formula that holds at
+            the first and fails at the second
+  certify   prints each block with a formula that holds at exactly its states
+  check     prints whether each formula of a second file holds at each of the states
+  verify    prints whether the blocks and formulas of a second file are right
+  --stats   adds a line with the numbers of structures, edges and steps
   A name that begins with `-` stands behind the word `--`.
 example: where the file doors.txt has these lines,
     P X
@@ -21,10 +31,12 @@ example: where the file doors.txt has these lines,
     open open
     ajar open
     shut shut
-  and the command `copar minimise doors.txt` prints
+  the command `copar minimise doors.txt` prints
     P X
     open: {shut}
     shut: {}
+  and the command `copar explain doors.txt open ajar` prints
+    equivalent open ajar
 ";
 
 /// What is wrong with words that make no request, the forms that are taken, and an example.
@@ -40,13 +52,38 @@ pub fn complaint(alloc: Global, words: &WordList) -> Result<String, AllocError> 
 /// What keeps a line from being of a row of the table.
 fn wrong_row(alloc: Global, line: &Line) -> Result<String, AllocError> {
     let action = line.action;
-    if action != "blocks" && action != "minimise" {
-        format!(in alloc; "copar: no such command: {action}\n")
-    } else if line.stats {
-        format!(in alloc; "copar: the command {action} takes no --stats\n")
-    } else if !line.rest.is_empty() {
-        format!(in alloc; "copar: the command {action} takes one file and no further word\n")
-    } else {
-        format!(in alloc; "copar: an empty word names no file\n")
+    let count = line.rest.len();
+    match action {
+        "blocks" | "minimise" | "certify" => {
+            if count > 0 {
+                return format!(in alloc;
+                    "copar: the command {action} takes one file and no further word\n"
+                );
+            }
+        }
+        "explain" => {
+            if count == 0 || count % 2 > 0 {
+                return format!(in alloc;
+                    "copar: the command explain takes a file and pairs of states\n"
+                );
+            }
+        }
+        "check" => {
+            if count < 2 {
+                return format!(in alloc;
+                    "copar: the command check takes two files and at least one state\n"
+                );
+            }
+        }
+        "verify" => {
+            if count != 1 {
+                return format!(in alloc; "copar: the command verify takes two files\n");
+            }
+        }
+        _ => return format!(in alloc; "copar: no such command: {action}\n"),
     }
+    if line.stats && (action == "check" || action == "verify") {
+        return format!(in alloc; "copar: the command {action} takes no --stats\n");
+    }
+    format!(in alloc; "copar: an empty word names no file and no state\n")
 }

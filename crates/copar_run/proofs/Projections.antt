@@ -4,12 +4,12 @@ use Rattle.std.specs.Prelude.{unwrap_or, take}
 use Rattle.outside.specs.Faults.{Rose}
 use Rattle.command_line.specs.Requests.{Request, Asks, AsksNothing}
 use Rattle.copar_run.specs.declared.status.Status.{Status}
-use Rattle.copar_run.specs.declared.status.Status.TheVariants.{Done, Usage, ReadFault, WriteFault, NoMemory}
+use Rattle.copar_run.specs.declared.status.Status.TheVariants.{Done, No, Usage, ReadFault, WriteFault, NoMemory}
 use Rattle.structure_parser.specs.Reads.{Fault}
 use Rattle.copar_run.specs.Reading.{status_of}
 use Rattle.copar_run.specs.Outputs.{Subject, Prints, MayEnd}
-use Rattle.copar_run.specs.Outcome.{Counts, Files, Outside, IsQuiet, NoReadFailed, NoWriteFailed, Stage, stages_of, Cause, MayStop, Stops, Reached, PassesAll, IsRead, IsSubject, IsOfOne, Answers, Ends, Ran, is_stop, is_end}
-use Rattle.copar_run.proofs.Stages.{ReadingLaws, told, may_stop, same_content, blocked, meet, past, read_name}
+use Rattle.copar_run.specs.Outcome.{Counts, Files, Outside, IsQuiet, NoReadFailed, NoWriteFailed, Stage, stages_of, Cause, MayStop, Stops, Reached, PassesAll, IsRead, IsSubject, IsOfOne, IsOfTwo, Answers, Ends, Ran, is_stop, is_end}
+use Rattle.copar_run.proofs.Stages.{ReadingLaws, told, may_stop, same_bytes, same_content, blocked, meet, past, read_name}
 
 -- the status is that of a failed read
 abbrev pub is_read : Status → Bool
@@ -47,11 +47,15 @@ fault_reads (Fault.ShortSum line) = refl
 may_is_stop : (stage : Stage) (s : Status) → MayStop stage s → is_stop s ≡ true
 may_is_stop (Stage.GetFile name) s e = ap is_stop e
 may_is_stop (Stage.ReadFile name) s e = ap is_stop e.1 ∙ fault_stops e.0
+may_is_stop (Stage.FindStates file first words) s e = ap is_stop e.1
+may_is_stop (Stage.JudgeText file second form) s e = ap is_stop e.1
 
 -- and it is not that of a failed read
 may_is_no_read : (stage : Stage) (s : Status) → MayStop stage s → is_read s ≡ false
 may_is_no_read (Stage.GetFile name) s e = ap is_read e
 may_is_no_read (Stage.ReadFile name) s e = ap is_read e.1 ∙ fault_reads e.0
+may_is_no_read (Stage.FindStates file first words) s e = ap is_read e.1
+may_is_no_read (Stage.JudgeText file second form) s e = ap is_read e.1
 
 -- a stage stops with the status of a stage
 stops_stop : (o : Outside) (stage : Stage) (s : Status) → Stops o stage s → is_stop s ≡ true
@@ -63,13 +67,20 @@ pub no_stop : (o : Outside) (stage : Stage) (s t : Status) → Stops o stage s
     → is_stop t ≡ false → s ≡ t → ⊥
 no_stop o stage s t x bad e = true≢false (sym (stops_stop o stage s x) ∙ ap is_stop e ∙ bad)
 
--- a request ends with Done
+-- a request ends with Done or No
 pub ended : (request : Request) (s : Status) → MayEnd request s → is_end s ≡ true
-ended request s e = ap is_end e
+ended (Request.Blocks file stats) s e = ap is_end e
+ended (Request.Minimise file stats) s e = ap is_end e
+ended (Request.Explain file states stats) s e = ap is_end e
+ended (Request.Certify file stats) s e = ap is_end e
+ended (Request.Check file formulas states) s e = ap is_end e
+ended (Request.Verify file answer) s (inl e) = ap is_end e
+ended (Request.Verify file answer) s (inr e) = ap is_end e
 
 -- a status after the work is that of no stage
 end_is_no_stop : (s : Status) → is_end s ≡ true → is_stop s ≡ true → ⊥
 end_is_no_stop Done e h = true≢false (sym h)
+end_is_no_stop No e h = true≢false (sym h)
 end_is_no_stop _ e h = true≢false (sym e)
 
 -- words ask for one request
@@ -143,17 +154,17 @@ module _ (words : List (List ℕ)) (o : Outside) (w : Counts) (rise : ℕ) (s : 
       (x.1, (ending, whole, x.2.0, a, x.2.1))
 
   -- after the work all of the output was written
-  pub whole_output : (request : Request) → Ends request o w rise s output → s ≡ Done
+  pub whole_output : (request : Request) → Ends request o w rise s output → is_end s ≡ true
       → Answers o request rise s output
   whole_output request (Ends.WithoutMemory m x r q) d =
-      absurd (apart is_end s Done NoMemory refl refl d m)
+      absurd (true≢false (sym d ∙ ap is_end m))
   whole_output request (Ends.Stopped stage r x e i q) d =
-      absurd (no_stop o stage s Done x refl d)
+      absurd (end_is_no_stop s d (stops_stop o stage s x))
   whole_output request (Ends.Worked ending whole p a (inl x) i) d =
       subst (λ z. Answers o request rise z output) (sym x.0)
       (subst (λ z. Answers o request rise ending z) (sym x.1) a)
   whole_output request (Ends.Worked ending whole p a (inr x) i) d =
-      absurd (apart is_end s Done WriteFault refl refl d x.0)
+      absurd (true≢false (sym d ∙ ap is_end x.0))
 
   -- under each other status nothing was written
   pub nothing : Ran words o w rise s output → is_end s ≡ false → s ≢ WriteFault → output ≡ []
@@ -230,10 +241,22 @@ module _ (laws : ReadingLaws) (files : Files) (o : Outside) (known : o.files ≡
   one_of file a b x y =
       y.1 ∙ ap Subject.One (same_content laws files file x.0 y.0 x.2 y.2) ∙ sym x.1
 
+  one_of_two : (file second : List ℕ) (a b : Subject) → IsOfTwo files file second a
+      → IsOfTwo files file second b → b ≡ a
+  one_of_two file second a b x y =
+      y.2
+      ∙ ap (λ c. Subject.WithText c y.1) (same_content laws files file x.0 y.0 x.3 y.3)
+      ∙ ap (λ bytes. Subject.WithText x.0 bytes) (same_bytes files second x.1 y.1 x.4 y.4)
+      ∙ sym x.2
+
   -- a request is about one subject
   same_subject : (r : Request) (a b : Subject) → IsSubject files r a → IsSubject files r b → b ≡ a
-  same_subject (Request.Blocks file) a b x y = one_of file a b x y
-  same_subject (Request.Minimise file) a b x y = one_of file a b x y
+  same_subject (Request.Blocks file stats) a b x y = one_of file a b x y
+  same_subject (Request.Minimise file stats) a b x y = one_of file a b x y
+  same_subject (Request.Explain file states stats) a b x y = one_of file a b x y
+  same_subject (Request.Certify file stats) a b x y = one_of file a b x y
+  same_subject (Request.Check file formulas states) a b x y = one_of_two file formulas a b x y
+  same_subject (Request.Verify file answer) a b x y = one_of_two file answer a b x y
 
   -- where nothing stops the request and no count rose, memory was wanting or the output is that of
   -- its subject
@@ -241,7 +264,7 @@ module _ (laws : ReadingLaws) (files : Files) (o : Outside) (known : o.files ≡
       → PassesAll o (stages_of request) → IsSubject files request subject
       → ((name : List ℕ) → IsRead o request name → IsQuiet (o.before name) (o.now name))
       → IsQuiet w.before w.now
-      → (s ≡ NoMemory) ⊎ (MayEnd request s × Prints request subject rise output)
+      → (s ≡ NoMemory) ⊎ (MayEnd request s × Prints request subject rise s output)
   headline subject (Ends.WithoutMemory m x r q) p i quiet still = inl m
   headline subject (Ends.Stopped stage r x y e q) p i quiet still =
       let read = read_name o (stages_of request) stage r
@@ -251,11 +274,13 @@ module _ (laws : ReadingLaws) (files : Files) (o : Outside) (known : o.files ≡
       absurd (not_risen w.before w.now still x.1)
   headline subject (Ends.Worked ending whole q a (inl x) e) p i quiet still =
       let answer = told o.files files
-      (λ f. (about : Subject) × IsSubject f request about × Prints request about rise whole)
+      (λ f. (about : Subject) × IsSubject f request about
+      × Prints request about rise ending whole)
       known a.1 in
       let same : subject ≡ answer.0 = same_subject request answer.0 subject answer.1 i in
       inr (
         subst (λ z. MayEnd request z) (sym x.0) a.0,
-        subst (λ z. Prints request z rise output) (sym same)
-            (subst (λ z. Prints request answer.0 rise z) (sym x.1) answer.2),
+        subst (λ z. Prints request z rise s output) (sym same)
+            (subst (λ z. Prints request answer.0 rise z output) (sym x.0)
+            (subst (λ z. Prints request answer.0 rise ending z) (sym x.1) answer.2)),
       )

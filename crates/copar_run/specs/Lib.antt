@@ -1,6 +1,12 @@
 pub mod Reading
 pub mod Blocks
 pub mod Minimal
+pub mod Named
+pub mod Explained
+pub mod Certified
+pub mod Checked
+pub mod Verified
 pub mod Outputs
 pub mod Outcome
 pub mod Lines
+pub mod Standing

@@ -1,17 +1,20 @@
 -- The lines that say why a run has no whole output.
 --
 -- line_of s               == the line of a status that stands in it alone, with its line feed
+-- stranger_line word      == the line of a word that names no state
+-- told_line s word        == the line of a status, with the word that it is of, if it is of one
 -- line_at stage s         == the line of a status with which the stage stops a run
 -- IsLine words o s line   == the line tells how a run on these words may have ended with the status
 -- IsToldOn words o s old new counts
 --                         == a sink with these bytes and counts, before and after, was told so
-use Rattle.std.specs.Prelude.{◌≡◌, ◌≢◌, ◌⊎◌, ℕ, List, [], ◌++◌, Bool, true, false, take, codes, decimal, Option}
+use Rattle.std.specs.Prelude.{◌≡◌, ◌≢◌, ◌⊎◌, ℕ, List, [], ◌++◌, ◌-◌, Bool, true, false, take, slice_get, unwrap_or, codes, decimal, Option}
 use Rattle.std.specs.Io.KnownBytes.{append_known}
 use Rattle.command_line.specs.Requests.{Request, Asks}
 use Rattle.typing.specs.declared.kind.TypeKind.{TypeKind}
 use Rattle.typing.specs.declared.kind.TypeKind.TheVariants.{UnknownState, NotALabel, WrongShape, WrongCount, RepeatedKey, MissingKey, BadIndex, NotANumber, Negative, RepeatedState}
 use Rattle.copar_run.specs.declared.status.Status.{Status}
-use Rattle.copar_run.specs.declared.status.Status.TheVariants.{Done, Usage, Grammar, TypeFault, WeightBound, SumFault, ReadFault, WriteFault, NoMemory, TooLong}
+use Rattle.copar_run.specs.declared.status.Status.TheVariants as status
+use Rattle.copar_run.specs.declared.status.Status.TheVariants.{Done, No, Usage, Grammar, TypeFault, WeightBound, SumFault, AnswerText, ReadFault, WriteFault, NoMemory, TooLong}
 use Rattle.copar_run.specs.Outcome.{Counts, Outside, Stage, IsQuiet, is_end, stages_of, Reached, Stops}
 
 -- how the line of a type fault ends, by its kind
@@ -27,10 +30,15 @@ ending_of NotANumber = codes ": not a number\n"
 ending_of Negative = codes ": negative\n"
 ending_of RepeatedState = codes ": repeated state\n"
 
--- the line of a status that stands in it alone, with its line feed; Done has none, and the text of
--- Usage is left open
+-- the line of a word that names no state
+abbrev pub stranger_line : List ℕ → List ℕ
+stranger_line word = codes "copar: unknown state " ++ word ++ codes "\n"
+
+-- The line of a status that stands in it alone, with its line feed. Done and No have none, the text
+-- of Usage is left open, and that of an unknown state has its word.
 abbrev pub line_of : Status → List ℕ
 line_of Done = []
+line_of No = []
 line_of Usage = []
 line_of (Grammar line) = codes "copar: grammar fault on line " ++ decimal line ++ codes "\n"
 line_of (TypeFault line kind) =
@@ -38,13 +46,26 @@ line_of (TypeFault line kind) =
 line_of (WeightBound line) = codes "copar: weight bound on line " ++ decimal line ++ codes "\n"
 line_of (SumFault line) =
     codes "copar: distribution sum on line " ++ decimal line ++ codes "\n"
+line_of (status.UnknownState place) = []
+line_of (AnswerText line) = codes "copar: answer text on line " ++ decimal line ++ codes "\n"
 line_of ReadFault = codes "copar: read fault\n"
 line_of WriteFault = codes "copar: write fault\n"
 line_of NoMemory = codes "copar: no memory\n"
 line_of TooLong = codes "copar: file longer than 67108864 bytes\n"
 
--- the line of a status with which the stage stops a run; the two stages add no word to it
+-- the line of a status, with the word that names no state, if it is of one
+abbrev pub told_line : Status → List ℕ → List ℕ
+told_line (status.UnknownState place) word = stranger_line word
+told_line s word = line_of s
+
+-- the word that words, counted from a first number, have at a place
+abbrev pub word_at : ℕ → List (List ℕ) → ℕ → List ℕ
+word_at first words place = unwrap_or (slice_get words (place - first)) []
+
+-- the line of a status with which the stage stops a run; a word that names no state is told
 abbrev pub line_at : Stage → Status → List ℕ
+line_at (Stage.FindStates file first words) (status.UnknownState place) =
+    stranger_line (word_at first words place)
 line_at stage s = line_of s
 
 -- the statuses that no stage decides

@@ -3,6 +3,7 @@
 -- code_of status            == the number that the program ends with
 -- Outside                   == what a run met outside: the files, and their counts of faults
 -- Stage, stages_of request  == what may stop a request before its work, in the order of refusals
+-- later_stages request      == those behind the reading of its first file
 -- Stops o stage s           == the stage has a cause for this status
 -- Passes o stage            == the stage has none
 -- Reached o stages stage    == each stage before it passes
@@ -14,29 +15,33 @@
 --                           == the request may end so: why, what was written, how many steps
 -- Ran words o counts rise s output
 --                           == the same of the words
--- IsMade, IsHalted          == how a request stands before its output is written
-use Rattle.std.specs.Prelude.{◌≡◌, ℕ, ◌<◌, ◌≤◌, ◌^◌, List, [], ◌∷◌, length, take, ⊤, Bool, true, false, Option, Some, None, IfSome, ◌⊎◌}
+use Rattle.std.specs.Prelude.{◌≡◌, ℕ, ◌+◌, ◌<◌, ◌≤◌, ◌^◌, List, [], ◌∷◌, length, take, ⊤, Bool, true, false, Option, Some, None, IfSome, ◌⊎◌}
 use Rattle.std.specs.Ordering.{nat_cmp}
 use Rattle.std.specs.Cmp.Lexicographic.{slice_cmp}
 use Rattle.std.specs.FinMap as map
 use Rattle.outside.specs.Faults.{last_count, Rose}
-use Rattle.command_line.specs.Requests.{Request, Asks, AsksNothing}
-use Rattle.typing.specs.Contents.{Content}
+use Rattle.command_line.specs.Requests.{Request, file_of, Asks, AsksNothing}
+use Rattle.typing.specs.Contents.{Content, words_of}
 use Rattle.copar_run.specs.declared.status.Status.{Status}
 use Rattle.copar_run.specs.declared.status.Status.TheVariants as status
-use Rattle.copar_run.specs.declared.status.Status.TheVariants.{Done, Usage, Grammar, TypeFault, WeightBound, SumFault, ReadFault, WriteFault, NoMemory, TooLong}
+use Rattle.copar_run.specs.declared.status.Status.TheVariants.{Done, No, Usage, Grammar, TypeFault, WeightBound, SumFault, UnknownState, AnswerText, ReadFault, WriteFault, NoMemory, TooLong}
 use Rattle.structure_parser.specs.Reads.{Reads, Fault, IsFault, most_bytes}
+use Rattle.answer_checker.specs.BadLines.{IsBadFormulaLine, IsBadAnswerLine}
 use Rattle.copar_run.specs.Reading.{status_of}
+use Rattle.copar_run.specs.Named.{IsStranger, AreNamed}
 use Rattle.copar_run.specs.Outputs.{Subject, Prints, MayEnd}
 
 -- the number that the program ends with
 abbrev pub code_of : Status → ℕ
 code_of Done = 0
+code_of No = 1
 code_of Usage = 2
 code_of (Grammar line) = 3
 code_of (TypeFault line kind) = 4
 code_of (WeightBound line) = 5
 code_of (SumFault line) = 6
+code_of (UnknownState place) = 7
+code_of (AnswerText line) = 8
 code_of ReadFault = 9
 code_of WriteFault = 10
 code_of NoMemory = 11
@@ -45,6 +50,7 @@ code_of TooLong = 12
 -- a status with which a stage may stop a request
 abbrev pub is_stop : Status → Bool
 is_stop Done = false
+is_stop No = false
 is_stop Usage = false
 is_stop WriteFault = false
 is_stop NoMemory = false
@@ -53,6 +59,7 @@ is_stop _ = true
 -- the status comes once the output is written
 abbrev pub is_end : Status → Bool
 is_end Done = true
+is_end No = true
 is_end _ = false
 
 -- the files of a folder, by name
@@ -92,27 +99,53 @@ NoReadFailed o = (name : List ℕ) → o.now name ≡ o.before name
 abbrev pub NoWriteFailed : Counts → Type 0
 NoWriteFailed w = w.now ≡ w.before
 
+-- what a second file is to be
+pub data Form : Type 0 where
+  -- lines of answers, of which the formulas count
+  Formulas : Form
+  -- formulas and blocks, which are judged
+  Answer : Form
+
 -- what may stop a request before its work
 pub data Stage : Type 0 where
   -- the file is read; it is within the bound
   GetFile : (name : List ℕ) → Stage
   -- it denotes a coalgebra
   ReadFile : (name : List ℕ) → Stage
+  -- the words, counted from a first number, name states of the coalgebra of the file
+  FindStates : (file : List ℕ) → (first : ℕ) → (words : List (List ℕ)) → Stage
+  -- the second file is of its form, and fits the coalgebra of the first
+  JudgeText : (file : List ℕ) → (second : List ℕ) → (form : Form) → Stage
 
 -- reading FILE, and what may stop the request after it
 abbrev pub of_file : List ℕ → List Stage → List Stage
 of_file file others = Stage.GetFile file ∷ Stage.ReadFile file ∷ others
 
+-- reading a second file, and judging its form
+abbrev pub of_second : List ℕ → List ℕ → Form → List Stage
+of_second file second form = Stage.GetFile second ∷ Stage.JudgeText file second form ∷ []
+
+-- what may stop a request once its first file is read, in the order of refusals
+abbrev pub later_stages : Request → List Stage
+later_stages (Request.Blocks file stats) = []
+later_stages (Request.Minimise file stats) = []
+later_stages (Request.Explain file states stats) = Stage.FindStates file 0 states ∷ []
+later_stages (Request.Certify file stats) = []
+later_stages (Request.Check file formulas states) =
+    Stage.FindStates file 1 states ∷ of_second file formulas Formulas
+later_stages (Request.Verify file answer) = of_second file answer Answer
+
 -- what may stop a request, in the order of refusals
 abbrev pub stages_of : Request → List Stage
-stages_of (Request.Blocks file) = of_file file []
-stages_of (Request.Minimise file) = of_file file []
+stages_of request = of_file (file_of request) (later_stages request)
 
 -- the names of the files that stages read, in order
 abbrev pub names_in : List Stage → List (List ℕ)
 names_in [] = []
 names_in (Stage.GetFile name ∷ stages) = name ∷ names_in stages
 names_in (Stage.ReadFile name ∷ stages) = names_in stages
+names_in (Stage.FindStates file first words ∷ stages) = names_in stages
+names_in (Stage.JudgeText file second form ∷ stages) = names_in stages
 
 -- the names of the files that a request reads where nothing stops it, in the order of refusals
 abbrev pub names_read : Request → List (List ℕ)
@@ -126,29 +159,51 @@ Holds files name bytes = map.get files name ≡ Some bytes
 abbrev pub Denotes : Files → List ℕ → Content → Type 0
 Denotes files name c = (bytes : List ℕ) × Holds files name bytes × Reads bytes c
 
--- the cause of a status in the files: the file is too long; its bytes have this first fault
+-- the line is the first that keeps the bytes from being a second file of this form
+abbrev pub IsBadLine : Form → Content → List ℕ → ℕ → Type 0
+IsBadLine Formulas c bytes line = IsBadFormulaLine c.term bytes line
+IsBadLine Answer c bytes line = IsBadAnswerLine c bytes line
+
+-- The cause of a status in the files: the file is too long; its bytes have this first fault; the
+-- word at this place is the first that names no state; this line is the first that is not of the
+-- form.
 abbrev pub Cause : Files → Stage → Status → Type 0
 Cause files (Stage.GetFile name) s =
     (s ≡ TooLong) × ((bytes : List ℕ) × Holds files name bytes × (most_bytes < length bytes))
 Cause files (Stage.ReadFile name) s =
     (bytes : List ℕ) × Holds files name bytes
     × ((fault : Fault) × (s ≡ status_of fault) × IsFault bytes fault)
+Cause files (Stage.FindStates file first words) s =
+    (c : Content) × Denotes files file c
+    × ((k : ℕ) × (s ≡ status.UnknownState (first + k)) × IsStranger (words_of c) words k)
+Cause files (Stage.JudgeText file second form) s =
+    (c : Content) × Denotes files file c × ((bytes : List ℕ) × Holds files second bytes
+    × ((line : ℕ) × (s ≡ AnswerText line) × IsBadLine form c bytes line))
 
 -- the stage has no cause in the files
 abbrev pub Clear : Files → Stage → Type 0
 Clear files (Stage.GetFile name) =
     (bytes : List ℕ) × Holds files name bytes × (length bytes ≤ most_bytes)
 Clear files (Stage.ReadFile name) = (c : Content) × Denotes files name c
+Clear files (Stage.FindStates file first words) =
+    (c : Content) × Denotes files file c × AreNamed (words_of c) words
+Clear files (Stage.JudgeText file second form) =
+    (c : Content) × Denotes files file c × ((bytes : List ℕ) × Holds files second bytes
+    × ((line : ℕ) → IsBadLine form c bytes line → ⊥))
 
 -- a read of this stage failed, and the count of its name rose
 abbrev pub FailedRead : Outside → Stage → Type 0
 FailedRead o (Stage.GetFile name) = Rose (o.before name) (o.now name)
 FailedRead o (Stage.ReadFile name) = ⊥
+FailedRead o (Stage.FindStates file first words) = ⊥
+FailedRead o (Stage.JudgeText file second form) = ⊥
 
 -- the stage may stop with the status; where the folder is silent, this is all that is known
 abbrev pub MayStop : Stage → Status → Type 0
 MayStop (Stage.GetFile name) s = s ≡ TooLong
 MayStop (Stage.ReadFile name) s = (fault : Fault) × (s ≡ status_of fault)
+MayStop (Stage.FindStates file first words) s = (place : ℕ) × (s ≡ status.UnknownState place)
+MayStop (Stage.JudgeText file second form) s = (line : ℕ) × (s ≡ AnswerText line)
 
 -- the stage has a cause for the status: a failed read, or one in the files
 abbrev pub Stops : Outside → Stage → Status → Type 0
@@ -178,16 +233,27 @@ IsRead o request name = Reached o (stages_of request) (Stage.GetFile name)
 abbrev pub IsOfOne : Files → List ℕ → Subject → Type 0
 IsOfOne files file subject = (c : Content) × (subject ≡ Subject.One c) × Denotes files file c
 
+-- it is about the coalgebra of this file and the bytes of another
+abbrev pub IsOfTwo : Files → List ℕ → List ℕ → Subject → Type 0
+IsOfTwo files file second subject =
+    (c : Content) × (bytes : List ℕ) × (subject ≡ Subject.WithText c bytes)
+    × Denotes files file c × Holds files second bytes
+
 -- what the request is about, in these files
 abbrev pub IsSubject : Files → Request → Subject → Type 0
-IsSubject files (Request.Blocks file) subject = IsOfOne files file subject
-IsSubject files (Request.Minimise file) subject = IsOfOne files file subject
+IsSubject files (Request.Blocks file stats) subject = IsOfOne files file subject
+IsSubject files (Request.Minimise file stats) subject = IsOfOne files file subject
+IsSubject files (Request.Explain file states stats) subject = IsOfOne files file subject
+IsSubject files (Request.Certify file stats) subject = IsOfOne files file subject
+IsSubject files (Request.Check file formulas states) subject = IsOfTwo files file formulas subject
+IsSubject files (Request.Verify file answer) subject = IsOfTwo files file answer subject
 
 -- the whole output of the request, with the status that comes once it is written
 abbrev pub Answers : Outside → Request → ℕ → Status → List ℕ → Type 0
 Answers o request rise ending whole =
     MayEnd request ending × IfSome o.files (λ files.
-    (subject : Subject) × IsSubject files request subject × Prints request subject rise whole)
+    (subject : Subject) × IsSubject files request subject
+    × Prints request subject rise ending whole)
 
 -- what of the whole output was written: all, or after a failed write a part from its front
 abbrev pub IsWritten : Counts → Status → List ℕ → Status → List ℕ → Type 0
@@ -225,17 +291,3 @@ pub data Ran
   Asked :
       (request : Request) → Asks words request → Ends request o w rise s output
       → Ran words o w rise s output
-
--- The first half of a run: the output was made, and nothing stopped the request before.
-pub record IsMade
-    (request : Request) (o : Outside) (rise : ℕ) (whole : List ℕ) : Type 0 where
-  pub passes : PassesAll o (stages_of request)
-  pub answers : Answers o request rise Done whole
-  pub read : NoReadFailed o
-
--- Or it was not: memory was wanting, or a stage stopped the request.
-pub data IsHalted (request : Request) (o : Outside) (s : Status) : Type 0 where
-  ForMemory : s ≡ NoMemory → NoReadFailed o → IsHalted request o s
-  AtStage :
-      (stage : Stage) → Reached o (stages_of request) stage → Stops o stage s
-      → (s ≡ ReadFault) ⊎ NoReadFailed o → IsHalted request o s

@@ -53,7 +53,7 @@ pub fn runs_end_so()
         × Answers o request rise ending whole × (output ≡ take n whole)) }
     ensures whole { (words : List (List ℕ)) (o : Outside) (w : Counts) (rise : ℕ) (s : Ending)
         (output : List ℕ) (request : Request) → Ran words o w rise s output →
-        Asks words request → s ≡ Status.Done → Answers o request rise s output }
+        Asks words request → is_end s ≡ true → Answers o request rise s output }
     ensures reads_are_told { (words : List (List ℕ)) (o : Outside) (w : Counts) (rise : ℕ)
         (s : Ending) (output : List ℕ) → Ran words o w rise s output →
         s ≢ Status.ReadFault → NoReadFailed o }
@@ -66,7 +66,7 @@ pub fn runs_end_so()
         PassesAll o (stages_of request) → IsSubject files request subject →
         ((name : List ℕ) → IsRead o request name → IsQuiet (o.before name) (o.now name)) →
         IsQuiet w.before w.now →
-        (s ≡ Status.NoMemory) ⊎ (MayEnd request s × Prints request subject rise output) }
+        (s ≡ Status.NoMemory) ⊎ (MayEnd request s × Prints request subject rise s output) }
 {
     files_have_one_reading();
     files_have_one_fault();

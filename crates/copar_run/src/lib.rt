@@ -9,13 +9,18 @@
 //! written.
 #![tactic(auto)]
 
+mod answering;
+mod ended;
 mod laws;
 mod lines;
 mod outputs;
+mod reading;
 mod status;
 mod top;
+mod verdicts;
 
 pub use command_line::WordList;
+pub use ended::Ended;
 pub use laws::{one_stage_stops, runs_end_so};
 pub use status::Status;
 pub use top::{answer, run};

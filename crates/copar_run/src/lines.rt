@@ -1,10 +1,11 @@
 //! The lines that say why a run has no whole output.
-ghost use Rattle.std.specs.Prelude.{◌≡◌, ◌≢◌, ◌≤◌, ℕ, List, [], ◌++◌, take, codes, decimal};
+ghost use Rattle.std.specs.Prelude.{◌≡◌, ◌≢◌, ◌≤◌, ℕ, List, [], true, false, ◌++◌, take, codes, decimal};
 ghost use Rattle.std.specs.Io.KnownBytes.{append_known};
-ghost use Rattle.copar_run.specs.Outcome.{Counts, IsQuiet, Outside, Ran, counts};
-ghost use Rattle.copar_run.specs.Lines.{IsToldOn, line_of, ending_of};
+ghost use Rattle.copar_run.specs.Outcome.{IsQuiet, Outside, counts, is_end};
+ghost use Rattle.copar_run.specs.Lines.{IsLine, IsToldOn, told_line, stranger_line, ending_of};
 
 use crate::Status;
+use crate::ended::Ended;
 use command_line::{WordList, complaint};
 use itoa::Buffer;
 use outside::{Sink, put_all};
@@ -12,17 +13,18 @@ use std::alloc::Global;
 use typing::TypeKind;
 
 /// Says on `err` how a run on these words ended, if it did not end well.
-pub(crate) fn tell<E: Sink>(alloc: Global, err: &mut E, words: &WordList, status: Status)
-    ensures told { (o : Outside) (w : Counts) (rise : ℕ) (output : List ℕ) →
-        Ran words.now o w rise status output →
-        IsToldOn words.now o status (E.taken err.old) (E.taken err.new)
+pub(crate) fn tell<E: Sink>(alloc: Global, err: &mut E, words: &WordList, ended: &Ended)
+    ensures told { (o : Outside) → (is_end ended.now.status ≡ false →
+        ended.now.status ≢ Status.Usage →
+        IsLine words.now o ended.now.status (told_line ended.now.status ended.now.word.now)) →
+        IsToldOn words.now o ended.now.status (E.taken err.old) (E.taken err.new)
         (counts (E.faults err.old) (E.faults err.new)) }
-    ensures no_line { status ≡ Status.Done → err.new ≡ err.old }
+    ensures no_line { is_end ended.now.status ≡ true → err.new ≡ err.old }
     ensures no_count_falls { E.faults err.old ≤ E.faults err.new }
 {
-    match status {
+    match ended.status {
         Status::Usage => put_usage(alloc, err, words),
-        _ => put_line(err, status),
+        _ => put_line(err, ended),
     }
 }
 
@@ -57,16 +59,17 @@ fn put_some<E: Sink>(err: &mut E, text: &[u8])
 }
 
 /// Writes the line of a status, in pieces and without memory. A fault of the sink ends the line.
-pub(crate) fn put_line<E: Sink>(err: &mut E, status: Status)
-    ensures whole { IsQuiet (E.faults err.old) (E.faults err.new) →
-        E.taken err.new ≡ append_known (E.taken err.old) (line_of status) }
-    ensures front { (n : ℕ) ×
-        (E.taken err.new ≡ append_known (E.taken err.old) (take n (line_of status))) }
+pub(crate) fn put_line<E: Sink>(err: &mut E, ended: &Ended)
+    ensures whole { IsQuiet (E.faults err.old) (E.faults err.new) → E.taken err.new
+        ≡ append_known (E.taken err.old) (told_line ended.now.status ended.now.word.now) }
+    ensures front { (n : ℕ) × (E.taken err.new ≡ append_known (E.taken err.old)
+        (take n (told_line ended.now.status ended.now.word.now))) }
     ensures no_count_falls { E.faults err.old ≤ E.faults err.new }
-    ensures no_call_when_done { status ≡ Status.Done → err.new ≡ err.old }
+    ensures no_call_when_done { is_end ended.now.status ≡ true → err.new ≡ err.old }
 {
-    match status {
+    match ended.status {
         Status::Done => put_text(err, b""),
+        Status::No => put_text(err, b""),
         Status::Usage => put_text(err, b""),
         Status::Grammar { line } => {
             put_numbered(err, b"copar: grammar fault on line ", line, b"\n")
@@ -82,6 +85,10 @@ pub(crate) fn put_line<E: Sink>(err: &mut E, status: Status)
         }
         Status::SumFault { line } => {
             put_numbered(err, b"copar: distribution sum on line ", line, b"\n")
+        }
+        Status::UnknownState { place: _ } => put_stranger(err, ended.word),
+        Status::AnswerText { line } => {
+            put_numbered(err, b"copar: answer text on line ", line, b"\n")
         }
         Status::ReadFault => put_text(err, b"copar: read fault\n"),
         Status::WriteFault => put_text(err, b"copar: write fault\n"),
@@ -137,4 +144,21 @@ fn put_numbered<E: Sink>(err: &mut E, text: &[u8], number: u32, ending: &[u8])
         return;
     }
     let _whole = put_all(err, ending);
+}
+
+/// Writes the line of a word that names no state.
+fn put_stranger<E: Sink>(err: &mut E, word: &str)
+    ensures whole { IsQuiet (E.faults err.old) (E.faults err.new) →
+        E.taken err.new ≡ append_known (E.taken err.old) (stranger_line word.now) }
+    ensures front { (n : ℕ) ×
+        (E.taken err.new ≡ append_known (E.taken err.old) (take n (stranger_line word.now))) }
+    ensures no_count_falls { E.faults err.old ≤ E.faults err.new }
+{
+    if !put_all(err, b"copar: unknown state ") {
+        return;
+    }
+    if !put_all(err, word.as_bytes()) {
+        return;
+    }
+    put_text(err, b"\n");
 }

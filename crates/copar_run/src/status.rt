@@ -9,6 +9,8 @@ use typing::TypeKind;
 pub enum Status {
     /// The output was written whole.
     Done,
+    /// The same, and it says that an answer is not right.
+    No,
     /// The words ask for nothing that the program does.
     Usage,
     /// This line of the file is the first that is not of its form. Where there is no functor line,
@@ -21,13 +23,17 @@ pub enum Status {
     WeightBound { line: u32 },
     /// This line is the first with a distribution whose weights do not sum to 1.
     SumFault { line: u32 },
-    /// A read of the file failed. An absent file is such a failure.
+    /// This word, counted from 0 behind the file, is the first that names no state.
+    UnknownState { place: usize },
+    /// This line of the second file is the first that is not of its form, or that does not fit.
+    AnswerText { line: u32 },
+    /// A read of a file failed. An absent file is such a failure.
     ReadFault,
     /// A write of the output failed. What was written is the output from its front.
     WriteFault,
     /// Memory was wanting.
     NoMemory,
-    /// The file has more than 67,108,864 bytes.
+    /// A file has more than 67,108,864 bytes.
     TooLong,
 }
 
@@ -38,11 +44,14 @@ impl Status {
     {
         match self {
             Status::Done => 0,
+            Status::No => 1,
             Status::Usage => 2,
             Status::Grammar { line: _ } => 3,
             Status::TypeFault { line: _, kind: _ } => 4,
             Status::WeightBound { line: _ } => 5,
             Status::SumFault { line: _ } => 6,
+            Status::UnknownState { place: _ } => 7,
+            Status::AnswerText { line: _ } => 8,
             Status::ReadFault => 9,
             Status::WriteFault => 10,
             Status::NoMemory => 11,

@@ -40,7 +40,7 @@ fn push_form(text: &mut Vec<u8>, form: &str, states: u8, seed: &mut u64) -> Resu
 }
 
 /// A file of one to seven states over a functor.
-fn generated(
+pub(crate) fn generated(
     alloc: Global,
     functor: &str,
     forms: &[&str],

@@ -64,13 +64,27 @@ fn run_into(
     alloc: Global,
     room: usize,
     command: &str,
+    folder: MemFolder,
+    failing_writes: &[u64],
+    failing_lines: &[u64],
+) -> Result<Seen, AllocError> {
+    let words: [&str; 2] = [command, "F"];
+    run_over(alloc, room, &words, folder, failing_writes, failing_lines)
+}
+
+/// A run of these words over the folder. The sink for the output has so much room, and takes at most
+/// 4 bytes at a write.
+pub(crate) fn run_over(
+    alloc: Global,
+    room: usize,
+    words: &[&str],
     mut folder: MemFolder,
     failing_writes: &[u64],
     failing_lines: &[u64],
 ) -> Result<Seen, AllocError> {
-    let words = words_of(alloc, &[command, "F"])?;
+    let words = words_of(alloc, words)?;
     let mut out = MemSink::new(alloc, room, 4, failing_writes)?;
-    let mut err = MemSink::new(alloc, 1000, 1000, failing_lines)?;
+    let mut err = MemSink::new(alloc, 4000, 1000, failing_lines)?;
     let blank = Blank::new(1);
     let status = counted::<Brand>(alloc, &words, &mut folder, &mut out, &mut err, blank);
     Ok(Seen { status, out, err })
@@ -263,7 +277,10 @@ fn words_of_no_row_are_refused_with_help(rt: HostRuntime) -> Result<(), Fail> {
         let seen = run_words(rt.alloc(), words)?;
         assert_eq!(rt; seen.status, Status::Usage, "{words:?}");
         assert_eq!(rt; seen.out.bytes(), b"".as_slice(), "{words:?}");
-        assert!(rt; seen.err.bytes().ends_with(b"shut: {}\n"), "{words:?}");
+        assert!(rt;
+            seen.err.bytes().ends_with(b"equivalent open ajar\n"),
+            "{words:?}"
+        );
     }
     for (words, front) in COMPLAINTS {
         let seen = run_words(rt.alloc(), words)?;

@@ -1,4 +1,4 @@
-use Rattle.std.proofs.Common.{◌≡◌, Some, None, [], map, ap, sym, ◌∙◌, unwrap_or, option_map}
+use Rattle.std.proofs.Common.{Some, None, [], map, ap, sym, ◌∙◌, unwrap_or, option_map}
 use Rattle.std.proofs.lemmas.Result.{IfOk-weaker}
 use Rattle.clap.specs.Words.{found_of}
 use Rattle.command_line.proofs.ByClap.{all-in}

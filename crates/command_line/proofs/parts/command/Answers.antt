@@ -1,8 +1,8 @@
 use Rattle.std.proofs.Common.{◌≡◌, ◌∙◌, ap₂, rules, codes, true}
 use Rattle.std.proofs.lemmas.Result.{IfOk-weaker}
-use Rattle.clap.specs.Words.{App, Rule, app_of, new_app, rule_of, with_rule}
+use Rattle.clap.specs.Words.{app_of, new_app, rule_of, with_rule}
 use Rattle.clap.specs.Simple.{on_top}
-use Rattle.command_line.specs.Parser.{copar_app, action_rule, file_rule, rest_rule, stats_rule}
+use Rattle.command_line.specs.Parser.{action_rule, file_rule, rest_rule, stats_rule}
 use Rattle.command_line.proofs.parts.command.Goals as goal
 
 pub returns : goal.returns

@@ -1,5 +1,5 @@
-use Rattle.std.proofs.Common.{◌≡◌, [], Some, map, refl, sym, ap, ap₂, ◌∙◌, string_bytes, subst}
-use Rattle.clap.specs.Words.{HasKind, app_of, fault_of, found_of, is_simple, is_simple_and_free, matches_of, rows_of}
+use Rattle.std.proofs.Common.{◌≡◌, [], Some, refl, sym, ap, ap₂, ◌∙◌, subst}
+use Rattle.clap.specs.Words.{HasKind, fault_of, found_of, is_simple, is_simple_and_free, matches_of, rows_of}
 use Rattle.command_line.specs.Parser.{copar_app}
 use Rattle.command_line.specs.Plain.{line_with}
 use Rattle.command_line.proofs.ByClap.{simple, simple-and-free, line-taken, line-refused}

@@ -1,17 +1,14 @@
 use Rattle.std.proofs.Common.{ap}
-use Rattle.copar_run.specs.Lines.{line_of}
-use Rattle.copar_run.proofs.Told.{has-line, is-done}
+use Rattle.copar_run.specs.Lines.{told_line}
 use Rattle.copar_run.proofs.lines.tell.Goals as goal
 
 pub returns-in_default : goal.returns-in_default
 returns-in_default g c = record {
-  told = λ o w rise output ran. record {
-    silent = λ e.
-        ap (λ err. g.E.Sink.taken err)
-        (c.put_line.ensures.no_call_when_done (is-done c.args.status e));
+  told = λ o line. record {
+    silent = λ e. ap (λ err. g.E.Sink.taken err) (c.put_line.ensures.no_call_when_done e);
     told = λ e other. (
-      line_of c.args.status,
-      has-line c.args.words.now o w rise c.args.status output ran e other,
+      told_line c.args.ended.now.status c.args.ended.now.word.now,
+      line e other,
       c.put_line.ensures.front,
       c.put_line.ensures.whole,
     );

@@ -1,16 +1,9 @@
-use Rattle.std.proofs.Common.{[], arith, refl, sym, ap, ◌∙◌, rules, option_map}
+use Rattle.std.proofs.Common.{[], arith, refl, sym, ap, ◌∙◌, option_map}
 use Rattle.command_line.specs.Asked.{denoted}
 use Rattle.command_line.specs.Requests.{Asks, AsksNothing}
 use Rattle.copar_run.specs.Outcome.{Ran}
 use Rattle.copar_run.proofs.Prefixes.{append_known_none}
 use Rattle.copar_run.proofs.top.ended.Goals as goal
-
-pub returns-in-Ok-Some-clause-ends : goal.returns-in-Ok-Some-clause-ends
-returns-in-Ok-Some-clause-ends g c =
-    let asks : Asks c.args.words.now (denoted c.in-Ok-Some.request) =
-    sym c.in-Ok-Some.ensures.asked ∙ ap (option_map denoted) c.in-Ok-Some.field-0-is in
-    let (rise, output, risen, taken, none, ends) = c.work.ensures.ends in
-    (rise, output, risen, taken, none, Ran.Asked (denoted c.in-Ok-Some.request) asks ends)
 
 pub returns-in-Ok-None-clause-ends : goal.returns-in-Ok-None-clause-ends
 returns-in-Ok-None-clause-ends g c =
@@ -21,7 +14,7 @@ returns-in-Ok-None-clause-ends g c =
       omega arith,
       sym (append_known_none (g.O.Sink.taken c.args.out.now)),
       (λ none other. refl),
-      Ran.Refused nothing refl refl (λ name. refl) refl,
+      Ran.Refused nothing c.by.ensures.same refl (λ name. refl) refl,
     )
 
 pub returns-in-Err-clause-ends : goal.returns-in-Err-clause-ends
@@ -31,5 +24,18 @@ returns-in-Err-clause-ends g c = (
   omega arith,
   sym (append_known_none (g.O.Sink.taken c.args.out.now)),
   (λ none other. refl),
-  Ran.Unread refl refl (λ name. refl) refl,
+  Ran.Unread c.by-in-Err.ensures.same refl (λ name. refl) refl,
 )
+
+pub returns-clause-ends : goal.returns-clause-ends
+returns-clause-ends g c =
+    let asks : Asks c.args.words.now (denoted c.in-Ok-Some.request) =
+    sym c.in-Ok-Some.ensures.asked ∙ ap (option_map denoted) c.in-Ok-Some.field-0-is in
+    let (rise, output, risen, taken, none, ends) = c.work.ensures.ends in
+    (rise, output, risen, taken, none, Ran.Asked (denoted c.in-Ok-Some.request) asks ends)
+
+pub returns-clause-line : goal.returns-clause-line
+returns-clause-line g c end other =
+    let asks : Asks c.args.words.now (denoted c.in-Ok-Some.request) =
+    sym c.in-Ok-Some.ensures.asked ∙ ap (option_map denoted) c.in-Ok-Some.field-0-is in
+    c.work.ensures.line c.args.words.now asks end
