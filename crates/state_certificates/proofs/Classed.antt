@@ -61,6 +61,15 @@ module _
       formula_of told i ≡ slice_index firsts m → StandsIn groups m i
   of_key m i h hi e = (grouped.exactly m i h).1 (hi, of_states i hi ∙ e)
 
+  -- the formula of a group is there
+  pub key_there : (m : ℕ) → m < length groups → slice_index firsts m < length told.dag
+  key_there m h =
+      let (i, key) =
+      key_of m (slice_index (group_at groups m) 0) h
+      (contained (group_at groups m) 0 0 (grouped.in_order.some m h)) in
+      subst (λ k. k < length told.dag) key
+      (are.exact.there (slice_index (group_at groups m) 0) i)
+
   shared :
       (m i j : ℕ) → m < length groups → StandsIn groups m i →
       StandsIn groups m j ↔ AreEquivalent c.term c.values i j

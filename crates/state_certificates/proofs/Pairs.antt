@@ -93,6 +93,9 @@ module _
       apart e =
           true≢false (sym (eq-eqb (class_in told.block_of i) (class_in told.block_of j) e) ∙ other)
 
+  abbrev first : Bool → ℕ → Option ℕ
+  first b k = if b then None else Some k
+
   each_verdict :
       (pairs : List (ℕ × ℕ)) → All AreThere pairs → (new : List ℕ) →
       length new ≡ length (numbers_in (map (answer_of told) pairs)) →
@@ -105,23 +108,17 @@ module _
       by (class_in told.block_of p.0 == class_in told.block_of p.1) refl
       (each_verdict ps (λ k d h. inside (suc k) d (omega (arith, h)))) new size news
     where
-      abbrev rest : List (Option ℕ)
-      rest = map (answer_of told) ps
-
-      abbrev first : Bool → Option ℕ
-      first b = if b then None else Some (formula_of told p.0)
-
       by :
           (b : Bool) → (class_in told.block_of p.0 == class_in told.block_of p.1) ≡ b →
-          ((new : List ℕ) → length new ≡ length (numbers_in rest) →
+          ((new : List ℕ) → length new ≡ length (numbers_in (map (answer_of told) ps)) →
           ((m : ℕ) → m < length new →
-          IsNewOf (slice_index (numbers_in rest) m) (slice_index new m)) →
-          AllZip (λ pair verdict. IsVerdict c small pair.0 pair.1 verdict) ps (renewed rest new)) →
-          (new : List ℕ) → length new ≡ length (numbers_in (first b ∷ rest)) →
+          IsNewOf (slice_index (numbers_in (map (answer_of told) ps)) m) (slice_index new m)) →
+          AllZip (λ pair verdict. IsVerdict c small pair.0 pair.1 verdict) ps (renewed (map (answer_of told) ps) new)) →
+          (new : List ℕ) → length new ≡ length (numbers_in (first b (formula_of told p.0) ∷ map (answer_of told) ps)) →
           ((m : ℕ) → m < length new →
-          IsNewOf (slice_index (numbers_in (first b ∷ rest)) m) (slice_index new m)) →
+          IsNewOf (slice_index (numbers_in (first b (formula_of told p.0) ∷ map (answer_of told) ps)) m) (slice_index new m)) →
           AllZip (λ pair verdict. IsVerdict c small pair.0 pair.1 verdict) (p ∷ ps)
-          (renewed (first b ∷ rest) new)
+          (renewed (first b (formula_of told p.0) ∷ map (answer_of told) ps) new)
       by true same later new size news =
           (one_block p.0 p.1 (inside 0 p (omega arith)) same, later new size news)
       by false other later [] size news = absurd (omega (arith, size))
