@@ -3,6 +3,7 @@
 -- answer_is          == what `separating` answers
 -- numbers-renewed    == renewed verdicts name the new numbers
 -- IsRenewed          == some verdicts are renewed
+-- all_there          == the formulas that are answered are there
 -- explained          == each pair has its verdict
 use Rattle.std.proofs.Common.{◌≡◌, ◌≢◌, ◌<◌, ◌≤◌, ◌+◌, ◌*◌, ◌==◌, ◌++◌, ℕ, zero, suc, Bool, true, false, List, [], ◌∷◌, length, map, take, drop, Option, Some, None, refl, sym, ◌∙◌, ap, subst, true≢false, arith, append_assoc}
 use Rattle.std.specs.Prelude.{◌↔◌, slice_index, slice_get, if◌then◌else◌, All, IsNone, IfSome}
@@ -56,6 +57,32 @@ pub record IsRenewed
   pub so_far : out ++ renewed (drop k vs) (drop next numbers) ≡ renewed vs numbers
   pub left : length (drop next numbers) ≡ length (numbers_in (drop k vs))
 
+-- the answer to a pair, by whether its states are in one block
+abbrev first : Bool → ℕ → Option ℕ
+first b k = if b then None else Some k
+
+-- both states are there
+abbrev pub AreThere : Content → ℕ × ℕ → Type 0
+AreThere c pair = (pair.0 < length c.values) × (pair.1 < length c.values)
+
+-- the formulas that are answered are there
+pub all_there :
+    (c : Content) (told : Certified) → AreCertificates c told → (pairs : List (ℕ × ℕ)) →
+    All (AreThere c) pairs →
+    All (λ k. k < length told.dag) (numbers_in (map (answer_of told) pairs))
+all_there c told are [] inside k d h = absurd (omega (arith, h))
+all_there c told are (p ∷ ps) inside k d h =
+    by (class_in told.block_of p.0 == class_in told.block_of p.1)
+    (all_there c told are ps (λ k d h. inside (suc k) d (omega (arith, h)))) k d h
+  where
+    by :
+        (b : Bool) → All (λ k. k < length told.dag) (numbers_in (map (answer_of told) ps)) →
+        All (λ k. k < length told.dag)
+        (numbers_in (first b (formula_of told p.0) ∷ map (answer_of told) ps))
+    by true rest k d h = rest k d h
+    by false rest zero d h = are.exact.there p.0 (inside 0 p (omega arith)).0
+    by false rest (suc k) d h = rest k d (omega (arith, h))
+
 module _
     (c : Content) (told : Certified) (are : AreCertificates c told) (small : List Formula) where
   -- number n of the small list holds where number k of all formulas does
@@ -63,13 +90,9 @@ module _
   IsNewOf k n =
       (n < length small) × ((i : ℕ) → holds_at c small n i ≡ holds_at c told.dag k i)
 
-  -- both states are there
-  abbrev AreThere : ℕ × ℕ → Type 0
-  AreThere pair = (pair.0 < length c.values) × (pair.1 < length c.values)
-
   -- states of one block are equivalent
   one_block :
-      (i j : ℕ) → AreThere (i, j) →
+      (i j : ℕ) → AreThere c (i, j) →
       (class_in told.block_of i == class_in told.block_of j) ≡ true → IsVerdict c small i j None
   one_block i j here same =
       (are.exact.blocks i j here.0 here.1).0
@@ -77,7 +100,7 @@ module _
 
   -- the formula of the first tells the states of two blocks apart
   two_blocks :
-      (i j n : ℕ) → AreThere (i, j) →
+      (i j n : ℕ) → AreThere c (i, j) →
       (class_in told.block_of i == class_in told.block_of j) ≡ false →
       IsNewOf (formula_of told i) n → IsVerdict c small i j (Some n)
   two_blocks i j n here other new = (
@@ -93,11 +116,8 @@ module _
       apart e =
           true≢false (sym (eq-eqb (class_in told.block_of i) (class_in told.block_of j) e) ∙ other)
 
-  abbrev first : Bool → ℕ → Option ℕ
-  first b k = if b then None else Some k
-
   each_verdict :
-      (pairs : List (ℕ × ℕ)) → All AreThere pairs → (new : List ℕ) →
+      (pairs : List (ℕ × ℕ)) → All (AreThere c) pairs → (new : List ℕ) →
       length new ≡ length (numbers_in (map (answer_of told) pairs)) →
       ((m : ℕ) → m < length new →
       IsNewOf (slice_index (numbers_in (map (answer_of told) pairs)) m) (slice_index new m)) →
@@ -129,7 +149,7 @@ module _
 
   -- each pair has its verdict
   pub explained :
-      IsDag told.dag → CitedFormulasAreNoMore → (pairs : List (ℕ × ℕ)) → All AreThere pairs →
+      IsDag told.dag → CitedFormulasAreNoMore → (pairs : List (ℕ × ℕ)) → All (AreThere c) pairs →
       (new : List ℕ) →
       IsOnlyCited told.dag (numbers_in (map (answer_of told) pairs)) small new →
       IsExplanation c pairs small (renewed (map (answer_of told) pairs) new)
