@@ -1,14 +1,12 @@
 -- The classes of states with a formula for each.
 --
 -- certified      == groups of states by their formulas are a certificate
-use Rattle.std.proofs.Common.{◌≡◌, ◌<◌, ◌≤◌, ◌+◌, ◌*◌, ℕ, List, [], ◌∷◌, length, false, Option, Some, None, refl, sym, ◌∙◌, ap, subst, inl, inr, true≢false, arith}
-use Rattle.std.specs.Prelude.{◌↔◌, slice_index, slice_get}
+use Rattle.std.proofs.Common.{◌≡◌, ◌<◌, ℕ, List, length, false, refl, sym, ◌∙◌, ap, subst, inl, inr, true≢false, arith}
+use Rattle.std.specs.Prelude.{◌↔◌, slice_index}
 use Rattle.std.specs.Option.{option_map_or}
 use Rattle.std.proofs.lemmas.Option.{slice_get_cases}
 use Rattle.typing.specs.Contents.{Content}
 use Rattle.typing.specs.Stable.{AreEquivalent}
-use Rattle.typing.specs.Layers.{Place}
-use Rattle.sorted_systems.specs.Systems.{class_in}
 use Rattle.formulas.specs.declared.formula.Formula.{Formula}
 use Rattle.formulas.specs.Formulas.{IsDag}
 use Rattle.formulas.specs.Truth.{holds}

@@ -3,7 +3,7 @@
 -- kept_at          == a wanted formula holds at the same states, under its new number
 -- kept_fit         == modalities fit as before
 -- kept_writable    == and can be written as before
-use Rattle.std.proofs.Common.{◌≡◌, ◌<◌, ℕ, false, List, length, refl, sym, ◌∙◌, ap, subst}
+use Rattle.std.proofs.Common.{◌≡◌, ◌<◌, ℕ, false, List, length, refl, ◌∙◌, ap, subst}
 use Rattle.std.specs.Prelude.{slice_index, slice_index_or, slice_get, Some, All}
 use Rattle.std.specs.Option.{option_map_or}
 use Rattle.std.proofs.lemmas.Option.{slice_get-get_or, slice_get_within, get_or_from_slice_get}

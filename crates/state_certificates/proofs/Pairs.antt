@@ -5,8 +5,8 @@
 -- IsRenewed          == some verdicts are renewed
 -- all_there          == the formulas that are answered are there
 -- explained          == each pair has its verdict
-use Rattle.std.proofs.Common.{◌≡◌, ◌≢◌, ◌<◌, ◌≤◌, ◌+◌, ◌*◌, ◌==◌, ◌++◌, ℕ, zero, suc, Bool, true, false, List, [], ◌∷◌, length, map, take, drop, Option, Some, None, refl, sym, ◌∙◌, ap, subst, true≢false, arith, append_assoc}
-use Rattle.std.specs.Prelude.{◌↔◌, slice_index, slice_get, if◌then◌else◌, All, IsNone, IfSome}
+use Rattle.std.proofs.Common.{◌≡◌, ◌<◌, ◌==◌, ◌++◌, ℕ, zero, suc, Bool, true, false, List, [], ◌∷◌, length, map, drop, Option, Some, None, refl, sym, ◌∙◌, ap, subst, true≢false, arith}
+use Rattle.std.specs.Prelude.{◌↔◌, slice_index, if◌then◌else◌, All, IsNone, IfSome}
 use Rattle.std.specs.List.{AllZip}
 use Rattle.std.proofs.lemmas.Bool.{eq-eqb, eqb-true}
 use Rattle.typing.specs.Contents.{Content}

@@ -2,24 +2,17 @@
 --
 -- separates        == what is cut out tells the same states apart
 -- separate         == states are equivalent exactly where no formula tells them apart
-use Rattle.std.proofs.Common.{◌≡◌, ◌<◌, ℕ, false, List, [], ◌∷◌, length, refl, sym, ◌∙◌, ap, arith}
-use Rattle.std.specs.Prelude.{slice_index, slice_get}
-use Rattle.std.specs.Option.{option_map_or}
-use Rattle.functor_terms.specs.Terms.{Nodes, IsTerm}
+use Rattle.std.proofs.Common.{◌≡◌, ◌<◌, ℕ, List, [], ◌∷◌, length, refl, sym, ◌∙◌, ap, arith}
+use Rattle.functor_terms.specs.Terms.{IsTerm}
 use Rattle.typing.specs.Contents.{Content}
 use Rattle.typing.specs.Laws.{AreInRange}
-use Rattle.typing.specs.Layers.{Place}
 use Rattle.sorted_systems.specs.Systems.{class_in}
 use Rattle.formulas.specs.declared.formula.Formula.{Formula}
-use Rattle.formulas.specs.declared.formula.Formula.TheVariants.{True, Not, And, At}
 use Rattle.formulas.specs.Formulas.{IsDag}
-use Rattle.formulas.specs.Truth.{holds}
-use Rattle.satisfaction.specs.Modalities.{fits_term, AllFit}
 use Rattle.satisfaction.specs.Laws.{TheSameOfCoalgebras}
-use Rattle.satisfaction.specs.Satisfaction.{layers_of, holds_at}
+use Rattle.satisfaction.specs.Satisfaction.{holds_at}
 use Rattle.formula_builder.specs.Certified.{Certified}
-use Rattle.formula_builder.specs.Cited.{renumbered, IsOnlyCited}
-use Rattle.formula_builder.proofs.Renumbered.{kept_truth}
+use Rattle.formula_builder.specs.Cited.{IsOnlyCited}
 use Rattle.state_certificates.proofs.Cut.{kept_at}
 use Rattle.state_certificates.specs.Certificates.{formula_of, StatesAreTold, IsSeparation, FormulasSeparate}
 

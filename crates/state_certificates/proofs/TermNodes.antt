@@ -1,11 +1,10 @@
 -- Each node of a term has as many children as it takes, and its labels are labels.
 --
 -- node_known     == the node with a number does, past the end too
-use Rattle.std.proofs.Common.{◌≡◌, ◌+◌, ℕ, zero, suc, true, List, [], ◌∷◌, ◌++◌, length, map, refl, sym, ap, ◌∙◌, subst}
+use Rattle.std.proofs.Common.{◌≡◌, ◌+◌, ℕ, zero, suc, true, List, [], ◌∷◌, ◌++◌, length, refl, sym, ap, ◌∙◌, subst}
 use Rattle.std.specs.List.{AllByRecursion}
 use Rattle.std.proofs.lemmas.List.{length-map}
 use Rattle.functor_terms.specs.declared.node.Node.{Node}
-use Rattle.functor_terms.specs.declared.node.Branch.{Branch}
 use Rattle.functor_terms.specs.Terms.{Nodes, Part, IsPart, IsTerm, HasLabels, takes, starts, nodes_of, over, placed, node_at, children_at, depth_limit}
 
 -- a node with so many children, and with labels

@@ -1,14 +1,12 @@
 -- What a sorted state shows can be written.
 --
 -- value_writable     == the value of a structure that fits, by its bounds
-use Rattle.std.proofs.Common.{◌≡◌, ◌≢◌, ◌<◌, ◌≤◌, ◌+◌, ◌*◌, ◌==◌, ◌&&◌, ◌^◌, ℕ, zero, suc, Bool, true, false, List, [], ◌∷◌, length, refl, sym, ◌∙◌, ap, subst, true≢false, arith, All}
-use Rattle.std.specs.Prelude.{ℤ, pos, ◌+ℤ◌, unsigned_abs, slice_index, nat_lt, nat_le, if◌then◌else◌}
+use Rattle.std.proofs.Common.{◌≡◌, ◌<◌, ◌≤◌, ◌+◌, ◌==◌, ◌^◌, ℕ, Bool, true, false, List, [], ◌∷◌, length, arith, All}
+use Rattle.std.specs.Prelude.{ℤ, pos, ◌+ℤ◌, unsigned_abs, slice_index, nat_lt, if◌then◌else◌}
 use Rattle.std.specs.List.{list_all}
 use Rattle.std.proofs.lemmas.Bool.{and_parts, eqb-true, ltb-true, leb-true}
 use Rattle.std.proofs.lemmas.Int.{ints}
 use Rattle.std.proofs.lemmas.List.Sums.{sum_by-cons}
-use Rattle.modalities.specs.declared.sums.Sums.{Sums}
-use Rattle.modalities.specs.declared.three.Three.{Three}
 use Rattle.weights.specs.Fractions.{lowest_terms}
 use Rattle.weights.specs.FractionLaws.{lowest_terms-IsLowest, lowest_terms-smaller}
 use Rattle.functor_terms.specs.declared.node.LabelSet.{LabelSet}
@@ -21,7 +19,7 @@ use Rattle.typing.specs.Values.{label, index, entries}
 use Rattle.typing.specs.Equality.{the_sum}
 use Rattle.typing.specs.Bounds.{is_within, absolute_sum}
 use Rattle.typing.proofs.KeptWeights.{entries_within}
-use Rattle.formulas.specs.Ranges.{IsTrit, IsWritableFraction, AreWritableSums, AreWritableTrits, IsWritableValue}
+use Rattle.formulas.specs.Ranges.{IsWritableFraction, AreWritableSums, IsWritableValue}
 use Rattle.formula_checker.specs.LayerValues.{joint_with, layer_value, members_of}
 use Rattle.satisfaction.specs.Modalities.{is_trit, has_form}
 use Rattle.state_certificates.proofs.TermNodes.{IsKnown}

@@ -6,7 +6,7 @@
 -- answer_of told pair           == the formula of the first state, unless both are in one block
 -- renewed verdicts new          == the numbers in verdicts, replaced by others in order
 -- IsExplanation                 == each pair has its verdict, over a list of what is cited for them
-use Rattle.std.specs.Prelude.{◌≡◌, ◌<◌, ◌≤◌, ◌+◌, ◌*◌, ◌==◌, ℕ, if◌then◌else◌, List, [], ◌∷◌, length, Option, Some, None, All}
+use Rattle.std.specs.Prelude.{◌<◌, ◌≤◌, ◌+◌, ◌*◌, ◌==◌, ℕ, if◌then◌else◌, List, [], ◌∷◌, length, Option, Some, None, All}
 use Rattle.std.specs.List.{AllZip, filter_map}
 use Rattle.typing.specs.Contents.{Content}
 use Rattle.typing.specs.Stable.{AreEquivalent}

@@ -2,7 +2,6 @@
 
 ghost use Rattle.std.specs.Prelude.{◌≡◌, ◌<◌, length, map, All, IfOk};
 ghost use Rattle.typing.specs.Contents.{content_of};
-ghost use Rattle.formula_builder.specs.Certified.{Certified};
 ghost use Rattle.state_certificates.specs.Certificates.{AreCertificates};
 ghost use Rattle.state_certificates.specs.Explained.{numbers_in, answer_of, renewed, IsExplanation};
 

@@ -5,7 +5,6 @@ use Rattle.typing.specs.Contents.{content_of}
 use Rattle.formulas.specs.declared.formula.Formula.{Formula}
 use Rattle.formulas.specs.Formulas.{IsDag}
 use Rattle.formula_builder.specs.Cited.{IsOnlyCited}
-use Rattle.state_certificates.specs.Certificates.{formula_of}
 use Rattle.state_certificates.specs.Groups.{AreGroups}
 use Rattle.state_certificates.proofs.Classed.{key_there, certified}
 use Rattle.state_certificates.proofs.certificate.certify_classes.Goals as goal
