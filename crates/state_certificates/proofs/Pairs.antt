@@ -133,10 +133,15 @@ module _
           ((new : List ℕ) → length new ≡ length (numbers_in (map (answer_of told) ps)) →
           ((m : ℕ) → m < length new →
           IsNewOf (slice_index (numbers_in (map (answer_of told) ps)) m) (slice_index new m)) →
-          AllZip (λ pair verdict. IsVerdict c small pair.0 pair.1 verdict) ps (renewed (map (answer_of told) ps) new)) →
-          (new : List ℕ) → length new ≡ length (numbers_in (first b (formula_of told p.0) ∷ map (answer_of told) ps)) →
+          AllZip (λ pair verdict. IsVerdict c small pair.0 pair.1 verdict) ps
+          (renewed (map (answer_of told) ps) new)) →
+          (new : List ℕ) →
+          length new
+          ≡ length (numbers_in (first b (formula_of told p.0) ∷ map (answer_of told) ps)) →
           ((m : ℕ) → m < length new →
-          IsNewOf (slice_index (numbers_in (first b (formula_of told p.0) ∷ map (answer_of told) ps)) m) (slice_index new m)) →
+          IsNewOf
+          (slice_index (numbers_in (first b (formula_of told p.0) ∷ map (answer_of told) ps)) m)
+          (slice_index new m)) →
           AllZip (λ pair verdict. IsVerdict c small pair.0 pair.1 verdict) (p ∷ ps)
           (renewed (first b (formula_of told p.0) ∷ map (answer_of told) ps) new)
       by true same later new size news =

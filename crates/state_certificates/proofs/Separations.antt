@@ -26,10 +26,12 @@ pub separates :
 separates c told exact ordered i j hi hj apart k is small n cut = record {
   there = cut.there 0 (omega arith);
   holds =
-      kept_at told.dag (k ∷ []) small (n ∷ []) cut c ordered 0 (omega arith) i ∙ ap (λ m. holds_at c told.dag m i) is
+      kept_at told.dag (k ∷ []) small (n ∷ []) cut c ordered 0 (omega arith) i
+      ∙ ap (λ m. holds_at c told.dag m i) is
       ∙ (exact.exactly i i hi hi).1 ((exact.blocks i i hi hi).0 refl);
   fails = λ h. apart ((exact.blocks i j hi hj).1 ((exact.exactly i j hi hj).0
-      (sym (kept_at told.dag (k ∷ []) small (n ∷ []) cut c ordered 0 (omega arith) j ∙ ap (λ m. holds_at c told.dag m j) is)
+      (sym (kept_at told.dag (k ∷ []) small (n ∷ []) cut c ordered 0 (omega arith) j
+      ∙ ap (λ m. holds_at c told.dag m j) is)
       ∙ h)));
   cited = cut.cited;
 }

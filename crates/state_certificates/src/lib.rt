@@ -3,8 +3,8 @@
 //! apart, or each class of states has its formula.
 //!
 //! Seen as: what `formula_builder` answers over the sorted states, in words of the states
-//! (`specs/Certificates.antt`, `specs/Explained.antt`, `specs/Classed.antt`). A sorted state and the
-//! structure that it stands for are alike, so they have the same truths.
+//! (`specs/Certificates.antt`, `specs/Explained.antt`, `specs/Classed.antt`). A sorted state and
+//! the structure that it stands for are alike, so they have the same truths.
 //! Source: T. Wißmann, S. Milius and L. Schröder, "Explaining Behavioural Inequivalence Generically
 //! in Quasilinear Time" (CONCUR 2021).
 #![tactic(auto)]
