@@ -14,7 +14,7 @@ use Rattle.formulas.specs.declared.formula.Formula.TheVariants.{True, Not, And, 
 use Rattle.formulas.specs.Formulas.{CitesBelow}
 use Rattle.formulas.specs.Ranges.{IsWritable}
 use Rattle.formula_text.specs.Values.{value_text, value_in, both}
-use Rattle.formula_text.specs.Answers.{Answer, Defines, is_some_part, parts_of, formula_name, cited, body_of, answer_of, count_with, with_answer, answered, answers_from, formulas_of, dag_of_answers}
+use Rattle.formula_text.specs.Answers.{Answer, Defines, is_some_part, parts_of, formula_name, cited, body_of, answer_of, count_with, with_answer, answered, taken, taken_from, formulas_of, dag_of_answers}
 use Rattle.formula_text.specs.Texts.{body_parts, line_of_parts, formula_line, text_from}
 use Rattle.formula_text.specs.Laws.{AreWritable, DagTextsAreRead}
 use Rattle.formula_text.proofs.NumberLaws.{same_itself, number_below-decimal, decimal_some, one_piece, first_piece, list_all-weaker}
@@ -217,7 +217,7 @@ cite_earlier k (f ∷ fs) h = (
 -- the text of formulas is read as these formulas, behind k of them
 read_from :
     (n k : ℕ) (fs : List Formula) → k + length fs < 2 ^ 32 → CiteEarlier k fs → AreWritable fs →
-    dag_of_answers (answers_from k (lines_from n (text_from k fs))) ≡ Ok fs
+    dag_of_answers (taken_from true k (lines_from n (text_from k fs))) ≡ Ok fs
 read_from n k [] small cites all = refl
 read_from n k (f ∷ fs) small cites all =
     let low : k < 2 ^ 32 = omega arith in
@@ -233,13 +233,14 @@ read_from n k (f ∷ fs) small cites all =
     ≡ numbered_line n line ∷ lines_from (n + 1) rest =
     ap (lines_from n) is
     ∙ line_first n line rest (joined_inside (formula_name k ∷ parts) are) refl in
-    let said : answer_of k (parts_of line) ≡ Some (Defines f) =
-    ap (answer_of k) (parts_are (formula_name k) parts are)
-    ∙ answer_of-parts k f low cites.0 fine in
-    ap (λ ls. dag_of_answers (answers_from k ls)) first
+    let said : taken true (answer_of k (parts_of line)) ≡ Some (Defines f) =
+    ap (taken true)
+    (ap (answer_of k) (parts_are (formula_name k) parts are)
+    ∙ answer_of-parts k f low cites.0 fine) in
+    ap (λ ls. dag_of_answers (taken_from true k ls)) first
     ∙ ap (λ a. dag_of_answers
-    (answered n (λ a. answers_from (count_with k a) (lines_from (n + 1) rest)) a)) said
-    ∙ then_formulas n f fs (answers_from (k + 1) (lines_from (n + 1) rest))
+    (answered n (λ a. taken_from true (count_with k a) (lines_from (n + 1) rest)) a)) said
+    ∙ then_formulas n f fs (taken_from true (k + 1) (lines_from (n + 1) rest))
     (read_from (n + 1) (k + 1) fs (omega arith) cites.1 (All-tail IsWritable f fs all))
 
 -- the text of formulas is read as these formulas

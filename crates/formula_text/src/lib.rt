@@ -25,5 +25,5 @@ mod writing;
 pub use answer::{AnswerText, BlockLine};
 pub use fault::DagFault;
 pub use laws::dag_texts_are_read;
-pub use reading::read_answers;
+pub use reading::{read_answers, read_certificate};
 pub use writing::dag_text;
