@@ -96,7 +96,7 @@ text_more old new done n a is put =
 -- ---- the answers so far, before those of later lines
 
 -- answers before others
-abbrev prefixed : List (ℕ × Answer) → Result (List (ℕ × Answer)) ℕ → Result (List (ℕ × Answer)) ℕ
+abbrev pub prefixed : List (ℕ × Answer) → Result (List (ℕ × Answer)) ℕ → Result (List (ℕ × Answer)) ℕ
 prefixed done (Ok answers) = Ok (done ++ answers)
 prefixed done (Err bad) = Err bad
 
@@ -106,7 +106,7 @@ one_more :
 one_more done n a (Ok answers) = ap Ok (sym (append_assoc done ((n, a) ∷ []) answers))
 one_more done n a (Err bad) = refl
 
-none_before : (read : Result (List (ℕ × Answer)) ℕ) → read ≡ prefixed [] read
+pub none_before : (read : Result (List (ℕ × Answer)) ℕ) → read ≡ prefixed [] read
 none_before (Ok answers) = refl
 none_before (Err bad) = refl
 
