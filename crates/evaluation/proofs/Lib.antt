@@ -1,0 +1,4 @@
+pub mod UseLaws
+pub mod FirstLaws
+pub mod JointLaws
+pub mod ValueTests
