@@ -8,11 +8,18 @@
 #![tactic(auto)]
 
 mod dropping;
+mod edges;
+mod evaluator;
 mod fault;
 mod firsts;
 mod layer;
 mod row;
+mod rows;
+mod truth;
+mod truths;
 mod uses;
 mod weighing;
 
+pub use evaluator::Evaluator;
 pub use fault::CheckFault;
+pub use truths::Truths;
