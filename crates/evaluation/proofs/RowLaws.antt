@@ -3,10 +3,11 @@
 -- AllCited               == so it is of each formula that one cites
 -- trits_are              == the trits of a structure's edges are those of its children
 -- row_tells              == the truth by rows is the truth
+-- row_read               == a row that is read
 -- evaluating_start       == before the first formula
 -- evaluating_step        == one more row, and those that are used no more are dropped
 -- state_truth            == the newest row has the truths at states
-use Rattle.std.proofs.Common.{◌≡◌, ◌+◌, ◌-◌, ◌<◌, ◌≤◌, ◌^◌, ℕ, zero, suc, Bool, true, false, not, ◌&&◌, List, [], ◌∷◌, ◌++◌, length, map, Option, Some, slice_get, refl, sym, ◌∙◌, ap, subst, inl, inr, arith, length-append}
+use Rattle.std.proofs.Common.{◌≡◌, ◌+◌, ◌-◌, ◌<◌, ◌≤◌, ◌^◌, ℕ, zero, suc, Bool, true, false, not, ◌&&◌, List, [], ◌∷◌, ◌++◌, length, map, Option, Some, slice_get, get_or, refl, sym, ◌∙◌, ap, subst, inl, inr, arith, length-append}
 use Rattle.std.specs.Prelude.{slice_index, ◌==◌, if◌then◌else◌}
 use Rattle.std.specs.List.{AllZip}
 use Rattle.std.specs.Option.{option_map_or}
@@ -115,8 +116,8 @@ module _
         element values i (subst (λ n. i < n) laid.structures.sorting.one_root below) in
         let root : root_at values place ≡ (0, v) =
         ap (λ (o : Option ℕ). option_map_or (λ j. option_map_or (λ u. (0, u)) (slice_get values j)
-        place) place o) e
-        ∙ ap (λ (o : Option Value). option_map_or (λ u. (0, u)) place o) at in
+        place) o place) e
+        ∙ ap (λ (o : Option Value). option_map_or (λ u. (0, u)) o place) at in
         ap f (sym ri)
         ∙ same (slice_index roots i) (0, v)
         (stands_at (slice_index roots i) 0 v (laid.structures.sorting.rooted i v at))
@@ -183,6 +184,14 @@ module _
     row_tells k f e told x p at =
         by_cases f told x p at ∙ sym (holds-by_cases w dag ordered k f e p)
 
+-- a row that is read
+pub row_read :
+    (rows : List (List Bool)) (i : ℕ) (row : List Bool) → i < length rows →
+    row ≡ get_or rows i row → row ≡ row_at rows i
+row_read [] i row h e = absurd (omega arith)
+row_read (r ∷ rows) zero row h e = e
+row_read (r ∷ rows) (suc i) row h e = row_read rows i row (omega arith) e
+
 row_before :
     (rows : List (List Bool)) (row : List Bool) (j : ℕ) → j < length rows →
     row_at (rows ++ row ∷ []) j ≡ row_at rows j
@@ -204,6 +213,10 @@ module _
 
   abbrev layers : Layers Place
   layers = layers_of content.term content.denominator content.values
+
+  -- rows have the truths of formula j
+  abbrev IsToldIn : List (List Bool) → ℕ → Type 0
+  IsToldIn rows j = Tells layers dag places j (row_at rows j)
 
   -- before the first formula
   pub evaluating_start :
@@ -242,9 +255,6 @@ module _
 
       count : length new ≡ k + 1
       count = keeps.one_each ∙ length-append rows (row ∷ [])
-
-      abbrev IsToldIn : List (List Bool) → ℕ → Type 0
-      IsToldIn rs j = Tells layers dag places j (row_at rs j)
 
       cited : AllCited (IsToldIn rows) f
       cited =

@@ -9,7 +9,7 @@ use formulas::Formula;
 use std::alloc::Global;
 
 /// Drops the row of formula j if no formula after number k uses it.
-pub(crate) fn drop_row(alloc: Global, last_uses: &[u32], k: u32, j: u32, rows: &mut [Row])
+fn drop_row(alloc: Global, last_uses: &[u32], k: u32, j: u32, rows: &mut [Row])
     requires there { j < length rows.old }
     requires one_each { length rows.old ≤ length last_uses.now }
     ensures kept { KeepsRows last_uses.now k rows.old rows.new }
@@ -20,8 +20,9 @@ pub(crate) fn drop_row(alloc: Global, last_uses: &[u32], k: u32, j: u32, rows: &
 }
 
 /// Drops the rows of those that formula k cites, if it is the last that uses them.
-pub(crate) fn drop_cited(alloc: Global, last_uses: &[u32], k: u32, f: &Formula, rows: &mut [Row])
-    requires cites { CitesBelow (length rows.old) f.now }
+fn drop_cited(alloc: Global, last_uses: &[u32], k: u32, f: &Formula, rows: &mut [Row])
+    requires cites { CitesBelow k f.now }
+    requires there { k < length rows.old }
     requires one_each { length rows.old ≤ length last_uses.now }
     ensures kept { KeepsRows last_uses.now k rows.old rows.new }
 {
@@ -41,3 +42,22 @@ pub(crate) fn drop_cited(alloc: Global, last_uses: &[u32], k: u32, f: &Formula, 
     }
 }
 
+
+/// Drops the rows that formula k and the one before it need, if no formula after k does.
+pub(crate) fn drop_unused(
+    alloc: Global,
+    last_uses: &[u32],
+    k: u32,
+    f: &Formula,
+    rows: &mut [Row],
+)
+    requires cites { CitesBelow k f.now }
+    requires there { k < length rows.old }
+    requires one_each { length rows.old ≤ length last_uses.now }
+    ensures kept { KeepsRows last_uses.now k rows.old rows.new }
+{
+    drop_cited(alloc, last_uses, k, f, rows);
+    if k > 0 {
+        drop_row(alloc, last_uses, k, k - 1, rows);
+    }
+}

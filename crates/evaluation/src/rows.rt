@@ -4,7 +4,7 @@ ghost use Rattle.std.specs.Prelude.{◌≡◌, ◌+◌, ◌<◌, ℕ, length, Ma
 ghost use Rattle.typing.specs.Contents.{content_of};
 ghost use Rattle.evaluation.specs.Rows.{IsEvaluating};
 
-use crate::dropping::{drop_cited, drop_row};
+use crate::dropping::drop_unused;
 use crate::edges::LaidOut;
 use crate::row::Row;
 use crate::truth::row_of;
@@ -29,15 +29,12 @@ pub(crate) fn add_row(
         (λ _. (length rows.new.items ≡ length rows.old.items + 1) ×
         IsEvaluating (content_of c.now) dag.now structures.now.places structures.now.firsts.items
         structures.now.targets.items last_uses.now rows.new.items)
-        (λ e. rows.new ≡ rows.old) }
+        (λ e. rows.new.items ≡ rows.old.items) }
 {
     let k = rows.len() as u32;
     let f = dag.formula(k);
     let row = row_of(alloc, c, structures, rows.as_slice(), f)?;
     rows.push(row)?;
-    drop_cited(alloc, last_uses, k, f, rows.as_mut_slice());
-    if k > 0 {
-        drop_row(alloc, last_uses, k, k - 1, rows.as_mut_slice());
-    }
+    drop_unused(alloc, last_uses, k, f, rows.as_mut_slice());
     Ok(())
 }
