@@ -6,6 +6,7 @@
 -- row_read               == a row that is read
 -- evaluating_start       == before the first formula
 -- evaluating_step        == one more row, and those that are used no more are dropped
+-- table_step             == one more row of a table
 -- state_truth            == the newest row has the truths at states
 use Rattle.std.proofs.Common.{◌≡◌, ◌+◌, ◌-◌, ◌<◌, ◌≤◌, ◌^◌, ℕ, zero, suc, Bool, true, false, not, ◌&&◌, List, [], ◌∷◌, ◌++◌, length, map, Option, Some, slice_get, get_or, refl, sym, ◌∙◌, ap, subst, inl, inr, arith, length-append}
 use Rattle.std.specs.Prelude.{slice_index, ◌==◌, if◌then◌else◌}
@@ -296,3 +297,23 @@ module _
       (root_place content.term content.denominator content.values places firsts targets
       at.laid_out x v h is)
       ∙ sym (ap (λ o. option_map_or (λ u. holds layers dag j (0, u)) o false) is)
+
+-- one more row of a table of truths
+pub table_step :
+    (content : Content) (dag : List Formula) (rows : List (List Bool)) (row : List Bool) (k : ℕ) →
+    length rows ≡ k →
+    ((f x : ℕ) → f < k → x < length content.values →
+    truth_in rows f x ≡ holds_at content dag f x) →
+    ((x : ℕ) → x < length content.values → truth_at row x ≡ holds_at content dag k x) →
+    (f x : ℕ) → f < k + 1 → x < length content.values →
+    truth_in (rows ++ row ∷ []) f x ≡ holds_at content dag f x
+table_step content dag rows row k len known newest f x h hx = elim (cases_lt f k) [
+  | inl before ↦
+      ap (λ r. truth_at r x) (row_before rows row f (omega (arith, before, len)))
+      ∙ known f x before hx
+  | inr not_before ↦ (
+      let same : k ≡ f = omega (arith, not_before, h) in
+      let there : row_at (rows ++ row ∷ []) f ≡ row =
+      ap (row_at (rows ++ row ∷ [])) (sym (len ∙ same)) ∙ row_last rows row in
+      ap (λ r. truth_at r x) there ∙ newest x hx ∙ ap (λ n. holds_at content dag n x) same)
+]

@@ -22,4 +22,4 @@ mod weighing;
 
 pub use evaluator::Evaluator;
 pub use fault::CheckFault;
-pub use truths::Truths;
+pub use truths::{Truths, evaluate};
