@@ -4,7 +4,7 @@
 -- edge_range        == so is that of each structure
 -- edges_chosen      == what stands in the range of a structure is what belongs to its edges
 -- place_inside, place_within     == each structure is at a node, and its weights are in bounds
-use Rattle.std.proofs.Common.{◌≡◌, ◌+◌, ◌-◌, ◌<◌, ◌≤◌, ◌^◌, ℕ, true, List, length, Some, slice_get, take, drop, sym, ◌∙◌, ap, subst, arith}
+use Rattle.std.proofs.Common.{◌≡◌, ◌+◌, ◌-◌, ◌<◌, ◌≤◌, ◌^◌, ℕ, true, List, length, Some, slice_get, take, drop, ◌∙◌, ap, arith}
 use Rattle.std.specs.Prelude.{slice_index, slice_range}
 use Rattle.functor_terms.specs.Terms.{Nodes}
 use Rattle.typing.specs.declared.value.Value.{Value}

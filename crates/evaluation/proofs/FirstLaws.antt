@@ -3,10 +3,10 @@
 -- below_more      == a smaller source is one of those that are counted
 -- below_done      == no source from one on is counted, if that one is not smaller
 -- starts_step     == where the edges of one more structure begin
-use Rattle.std.proofs.Common.{◌≡◌, ◌+◌, ◌<◌, ◌≤◌, ℕ, zero, suc, List, [], ◌∷◌, ◌++◌, length, get_or, refl, sym, ◌∙◌, ap, subst, inl, inr, arith, length-append}
+use Rattle.std.proofs.Common.{◌≡◌, ◌+◌, ◌<◌, ◌≤◌, ℕ, zero, suc, List, [], ◌∷◌, ◌++◌, length, get_or, refl, sym, ◌∙◌, ap, inl, inr, arith, length-append}
 use Rattle.std.specs.Prelude.{AllPairs, slice_index}
-use Rattle.std.proofs.lemmas.Bool.{cases_eq, cases_lt}
-use Rattle.edge_store.specs.Edges.{below, just}
+use Rattle.std.proofs.lemmas.Bool.{cases_lt}
+use Rattle.edge_store.specs.Edges.{below}
 use Rattle.edge_store.proofs.Counts.{below_apart, at_key}
 use Rattle.evaluation.proofs.UseLaws.{push_last}
 

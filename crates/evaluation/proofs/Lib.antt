@@ -4,4 +4,3 @@ pub mod JointLaws
 pub mod ValueTests
 pub mod RowLaws
 pub mod EdgeLaws
-pub mod MisfitLaws

@@ -8,14 +8,14 @@
 -- evaluating_step        == one more row, and those that are used no more are dropped
 -- table_step             == one more row of a table
 -- state_truth            == the newest row has the truths at states
-use Rattle.std.proofs.Common.{◌≡◌, ◌+◌, ◌-◌, ◌<◌, ◌≤◌, ◌^◌, ℕ, zero, suc, Bool, true, false, not, ◌&&◌, List, [], ◌∷◌, ◌++◌, length, map, Option, Some, slice_get, get_or, refl, sym, ◌∙◌, ap, subst, inl, inr, arith, length-append}
+use Rattle.std.proofs.Common.{◌≡◌, ◌+◌, ◌-◌, ◌<◌, ◌≤◌, ℕ, zero, suc, Bool, true, false, not, ◌&&◌, List, [], ◌∷◌, ◌++◌, length, map, Option, Some, slice_get, get_or, refl, sym, ◌∙◌, ap, subst, inl, inr, arith, length-append}
 use Rattle.std.specs.Prelude.{slice_index, ◌==◌, if◌then◌else◌}
 use Rattle.std.specs.List.{AllZip}
 use Rattle.std.specs.Option.{option_map_or}
 use Rattle.std.proofs.lemmas.Bool.{cases_lt}
 use Rattle.functor_terms.specs.declared.node.Node.{Node}
 use Rattle.functor_terms.specs.declared.node.Node.TheVariants.{State, Constant, Naturals, Product, Sum, Power, Powerset, Bag, Distribution, Integers, Rationals}
-use Rattle.functor_terms.specs.Terms.{Nodes, IsTerm, node_at}
+use Rattle.functor_terms.specs.Terms.{Nodes, node_at}
 use Rattle.typing.specs.declared.value.Value.{Value}
 use Rattle.typing.specs.Contents.{Content}
 use Rattle.typing.specs.Layers.{Place, children_of, is_state, is_state_at, root_at, kids}
@@ -33,7 +33,7 @@ use Rattle.formula_checker.specs.LayerValues.{layer_value}
 use Rattle.satisfaction.specs.Satisfaction.{layers_of, holds_at}
 use Rattle.evaluation.specs.Truths.{truth_at, row_at, truth_in}
 use Rattle.evaluation.specs.Uses.{IsUsedAt, AreLastUses, KeepsRows}
-use Rattle.evaluation.specs.Rows.{AreLaidOut, edge_trits, trits_of, truth_by, Tells, IsEvaluating}
+use Rattle.evaluation.specs.Rows.{AreLaidOut, trits_of, truth_by, Tells, IsEvaluating}
 
 some_same : {X : Type 0} (x y : X) → Some x ≡ Some y → x ≡ y
 some_same x y e = cc

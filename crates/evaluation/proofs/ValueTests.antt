@@ -2,7 +2,7 @@
 --
 -- other_value       == values that are not one fail the test
 -- same_value        == a test that tells values apart is the test of values
-use Rattle.std.proofs.Common.{◌≡◌, Bool, true, false, refl, sym, ◌∙◌}
+use Rattle.std.proofs.Common.{◌≡◌, Bool, true, false, refl, sym}
 use Rattle.modalities.specs.declared.three.Three.{Three}
 use Rattle.formulas.specs.Truth.{is_value}
 use Rattle.formulas.proofs.TruthLaws.{is_value-tells}

@@ -4,7 +4,7 @@
 -- trits_of              == for each edge the trit of the structure to which it leads
 -- truth_by              == the truth of a formula, by the rows of those that it cites
 -- Tells, IsEvaluating   == a row of truths; the rows that are still used
-use Rattle.std.specs.Prelude.{◌≡◌, ℕ, ◌+◌, ◌<◌, ◌≤◌, ◌==◌, Bool, true, not, ◌&&◌, List, [], length, map, slice_get, slice_index, Some}
+use Rattle.std.specs.Prelude.{◌≡◌, ℕ, ◌<◌, ◌≤◌, ◌==◌, Bool, true, not, ◌&&◌, List, [], length, map, slice_get, slice_index, Some}
 use Rattle.functor_terms.specs.Terms.{Nodes, IsTerm, node_at}
 use Rattle.typing.specs.declared.value.Value.{Value}
 use Rattle.typing.specs.Contents.{Content}

@@ -1,5 +1,4 @@
-use Rattle.std.proofs.Common.{◌≤◌, ◌+◌, arith}
-use Rattle.edge_store.proofs.Counts.{within}
+use Rattle.std.proofs.Common.{arith}
 use Rattle.evaluation.proofs.FirstLaws.{below_more, below_done}
 use Rattle.evaluation.proofs.firsts.smaller_sources.Goals as goal
 

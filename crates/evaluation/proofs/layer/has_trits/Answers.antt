@@ -1,6 +1,5 @@
 use Rattle.std.proofs.Common.{◌≡◌, Bool, true, false, refl, sym, ap, ◌∙◌}
 use Rattle.std.specs.Cmp.Lexicographic.{same_text, other_text}
-use Rattle.modalities.specs.declared.three.Three.{Three}
 use Rattle.modalities.specs.declared.three.Three.TheVariants.{Trits}
 use Rattle.modalities.specs.Order.{trits_of}
 use Rattle.evaluation.proofs.ValueTests.{same_value}

@@ -1,5 +1,5 @@
-use Rattle.std.proofs.Common.{◌≡◌, ◌+◌, ℕ, Bool, true, ◌&&◌, List, length, Some, slice_get, sym, ap, ◌∙◌, subst}
-use Rattle.std.specs.Prelude.{slice_index, slice_range, ◌==◌}
+use Rattle.std.proofs.Common.{◌≡◌, ◌+◌, Bool, ◌&&◌, length, Some, sym, ap, ◌∙◌, subst}
+use Rattle.std.specs.Prelude.{slice_index, slice_range}
 use Rattle.std.proofs.lemmas.Bool.{eq-eqb}
 use Rattle.functor_terms.specs.Terms.{node_at}
 use Rattle.typing.specs.Layers.{Place}

@@ -1,4 +1,4 @@
-use Rattle.std.proofs.Common.{◌≡◌, ◌+◌, ◌-◌, ◌<◌, ◌++◌, [], ◌∷◌, ℕ, Bool, List, length, length-append, sym, ap, ◌∙◌, subst, arith}
+use Rattle.std.proofs.Common.{◌≡◌, ◌+◌, ◌-◌, ◌<◌, [], ◌∷◌, ℕ, Bool, List, length, length-append, sym, ap, ◌∙◌, subst, arith}
 use Rattle.typing.specs.Contents.{content_of}
 use Rattle.satisfaction.specs.Satisfaction.{holds_at}
 use Rattle.evaluation.specs.Truths.{truth_at, truth_in}

@@ -1,4 +1,4 @@
-use Rattle.std.proofs.Common.{◌≡◌, true, false, sym, ap, ◌∙◌, true≢false}
+use Rattle.std.proofs.Common.{sym, ap, ◌∙◌, true≢false}
 use Rattle.modalities.specs.declared.three.Three.{Three}
 use Rattle.modalities.specs.Order.{sums_of}
 use Rattle.formula_checker.specs.LayerValues.{weights_of}
