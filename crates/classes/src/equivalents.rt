@@ -1,16 +1,15 @@
-//! The composition of desorting and the refiner.
+//! The classes of equivalent states, read from the refinement of the sorted states.
 
 ghost use Rattle.std.specs.Prelude.{◌≡◌, ◌+◌, ◌≤◌, ◌^◌, ℕ, List, slice_index, EachIndex, IfOk};
 ghost use Rattle.typing.specs.Stable.{IsStable, IsFirst, Refines};
 ghost use Rattle.typing.specs.Contents.{content_of};
+ghost use Rattle.desorting.specs.Desorted.{IsDesorted};
+ghost use Rattle.classes.specs.Refined.{IsRefined};
 ghost use Rattle.classes.specs.Counted.{IsCounted};
 
 use crate::firsts::first_places;
-use crate::refining::refined_states;
-use desorting::{
-    desort, greatest_is_equivalence, sorted_states_are_a_system,
-    stable_labellings_give_stable_lists,
-};
+use crate::refining::{Refinement, refinement_of};
+use desorting::{greatest_is_equivalence, stable_labellings_give_stable_lists};
 use outside::Steps;
 use std::alloc::{AllocError, Global};
 use std::sync::ledger::Ledger;
@@ -27,6 +26,33 @@ pub struct Equivalents {
     pub edges: u32,
     /// How many steps were counted.
     pub labels: u64,
+}
+
+/// For each state the first state that is equivalent to it, by the refinement of the sorted states
+/// of the coalgebra. The error is want of memory.
+pub fn firsts_of(
+    alloc: Global,
+    c: &Coalgebra,
+    refinement: &Refinement,
+) -> Result<Vec<u32>, AllocError>
+    requires desorted { IsDesorted c.now.term c.now.values.items c.now.denominator
+        refinement.now.system }
+    requires refined { IsRefined refinement.now.system refinement.now.refined }
+    ensures stable { IfOk result (λ firsts.
+        IsStable c.now.term c.now.values.items firsts.items) }
+    ensures coarsest { IfOk result (λ firsts. (s : List ℕ) →
+        IsStable c.now.term c.now.values.items s
+        → Refines s firsts.items) }
+    ensures first { IfOk result (λ firsts. EachIndex c.now.values.items (λ i.
+        IsFirst c.now.term c.now.values.items i (slice_index firsts.items i))) }
+{
+    greatest_is_equivalence();
+    stable_labellings_give_stable_lists();
+    let _nodes = c.term.len();
+    let n = c.names.len();
+    let refined = &refinement.refined;
+    let firsts = first_places(alloc, refined.block_of(), refined.blocks(), n)?;
+    Ok(firsts)
 }
 
 /// For each state the first state that is equivalent to it, with the sizes of the system that was
@@ -50,19 +76,13 @@ pub fn first_equivalents<L: Ledger>(
     ensures rise { IfOk result (λ found. steps.new ≡ steps.old + found.labels) }
     ensures grows { steps.old ≤ steps.new }
 {
-    sorted_states_are_a_system();
-    greatest_is_equivalence();
-    stable_labellings_give_stable_lists();
-    let _nodes = c.term.len();
-    let n = c.names.len();
-    let system = desort(alloc, c)?;
-    let refined = refined_states(alloc, &system, steps)?;
-    let edges = system.edges();
-    let _sources = edges.states();
+    let found = refinement_of(alloc, c, steps)?;
+    let firsts = firsts_of(alloc, c, &found)?;
+    let edges = found.system.edges();
     Ok(Equivalents {
-        firsts: first_places(alloc, refined.block_of(), refined.blocks(), n)?,
-        sorted: system.sorted(),
+        firsts,
+        sorted: found.system.sorted(),
         edges: edges.len(),
-        labels: refined.labels(),
+        labels: found.refined.labels(),
     })
 }

@@ -13,4 +13,5 @@ mod equivalents;
 mod firsts;
 mod refining;
 
-pub use equivalents::{Equivalents, first_equivalents};
+pub use equivalents::{Equivalents, first_equivalents, firsts_of};
+pub use refining::{Refinement, refinement_of};

@@ -1,9 +1,9 @@
 -- What is read of the lines so far.
 use Rattle.std.proofs.Common.{◌≡◌, ℕ, suc, ◌+◌, List, [], ◌∷◌, ◌++◌, ◌≤◌, ◌^◌, length, map, append_assoc, append-nil, Some, None, refl, ap, sym, ◌∙◌, subst, arith}
-use Rattle.std.specs.Prelude.{Result, Ok, Err}
+use Rattle.std.specs.Prelude.{Bool, Result, Ok, Err}
 use Rattle.std.proofs.lemmas.List.{length-append}
 use Rattle.file_cut.specs.Lines.{Numbered, numbered_line}
-use Rattle.formula_text.specs.Answers.{Answer, Defines, Block, Separates, Equivalent, parts_of, answer_of, count_with, with_answer, answered, answers_from, with_formula, formulas_of}
+use Rattle.formula_text.specs.Answers.{Answer, Defines, Block, Separates, Equivalent, parts_of, answer_of, count_with, with_answer, answered, taken, taken_from, with_formula, formulas_of}
 use Rattle.formula_text.specs.declared.answer.AnswerText.{AnswerText}
 use Rattle.formula_text.specs.declared.fault.DagFault.{DagFault}
 use Rattle.formula_text.specs.declared.fault.DagFault.TheVariants.{BadLine, NoMemory}
@@ -96,7 +96,7 @@ text_more old new done n a is put =
 -- ---- the answers so far, before those of later lines
 
 -- answers before others
-abbrev prefixed : List (ℕ × Answer) → Result (List (ℕ × Answer)) ℕ → Result (List (ℕ × Answer)) ℕ
+abbrev pub prefixed : List (ℕ × Answer) → Result (List (ℕ × Answer)) ℕ → Result (List (ℕ × Answer)) ℕ
 prefixed done (Ok answers) = Ok (done ++ answers)
 prefixed done (Err bad) = Err bad
 
@@ -106,21 +106,21 @@ one_more :
 one_more done n a (Ok answers) = ap Ok (sym (append_assoc done ((n, a) ∷ []) answers))
 one_more done n a (Err bad) = refl
 
-none_before : (read : Result (List (ℕ × Answer)) ℕ) → read ≡ prefixed [] read
+pub none_before : (read : Result (List (ℕ × Answer)) ℕ) → read ≡ prefixed [] read
 none_before (Ok answers) = refl
 none_before (Err bad) = refl
 
 -- the text has what the lines before those that are left say
-pub record IsReadSoFar (found left : List Numbered) (t : AnswerText) : Type 0 where
+pub record IsReadSoFar (pairs : Bool) (found left : List Numbered) (t : AnswerText) : Type 0 where
   pub done : List (ℕ × Answer)
   pub is : IsTextOf t done
-  pub read : answers_from 0 found ≡ prefixed done (answers_from (length t.dag) left)
+  pub read : taken_from pairs 0 found ≡ prefixed done (taken_from pairs (length t.dag) left)
 
 -- nothing is read at first
 pub so_far-none :
-    (found : List Numbered) (t : AnswerText) → t.dag ≡ [] → t.lines.items ≡ [] →
-    t.blocks.items ≡ [] → t.pair ≡ None → IsReadSoFar found found t
-so_far-none found t dag lines blocks pair =
+    (pairs : Bool) (found : List Numbered) (t : AnswerText) → t.dag ≡ [] → t.lines.items ≡ [] →
+    t.blocks.items ≡ [] → t.pair ≡ None → IsReadSoFar pairs found found t
+so_far-none pairs found t dag lines blocks pair =
     record {
       done = [];
       is =
@@ -131,8 +131,8 @@ so_far-none found t dag lines blocks pair =
             pair = pair;
           };
       read =
-          none_before (answers_from 0 found)
-          ∙ ap (λ fs. prefixed [] (answers_from (length fs) found)) (sym dag);
+          none_before (taken_from pairs 0 found)
+          ∙ ap (λ fs. prefixed [] (taken_from pairs (length fs) found)) (sym dag);
     }
 
 -- how many formulas there are behind an answer
@@ -151,42 +151,44 @@ count_more old new n a put = by a put.formulas
 
 -- one line more
 pub so_far-more :
-    (found rest : List Numbered) (n : ℕ) (text : List ℕ) (a : Answer) (old new : AnswerText) →
-    IsReadSoFar found (numbered_line n text ∷ rest) old →
-    answer_of (length old.dag) (parts_of text) ≡ Some a → IsPut n a old new →
-    IsReadSoFar found rest new
-so_far-more found rest n text a old new h said put =
+    (pairs : Bool) (found rest : List Numbered) (n : ℕ) (text : List ℕ) (a : Answer)
+    (old new : AnswerText) →
+    IsReadSoFar pairs found (numbered_line n text ∷ rest) old →
+    taken pairs (answer_of (length old.dag) (parts_of text)) ≡ Some a → IsPut n a old new →
+    IsReadSoFar pairs found rest new
+so_far-more pairs found rest n text a old new h said put =
     record {
       done = h.done ++ (n, a) ∷ [];
       is = text_more old new h.done n a h.is put;
       read =
           h.read
           ∙ ap (λ o. prefixed h.done
-          (answered n (λ b. answers_from (count_with (length old.dag) b) rest) o)) said
-          ∙ one_more h.done n a (answers_from (count_with (length old.dag) a) rest)
-          ∙ ap (λ k. prefixed (h.done ++ (n, a) ∷ []) (answers_from k rest))
+          (answered n (λ b. taken_from pairs (count_with (length old.dag) b) rest) o)) said
+          ∙ one_more h.done n a (taken_from pairs (count_with (length old.dag) a) rest)
+          ∙ ap (λ k. prefixed (h.done ++ (n, a) ∷ []) (taken_from pairs k rest))
           (count_more old new n a put);
     }
 
 -- all lines are read
 pub so_far-all :
-    (found : List Numbered) (t : AnswerText) → IsReadSoFar found [] t →
-    GivesText t (answers_from 0 found)
-so_far-all found t h =
+    (pairs : Bool) (found : List Numbered) (t : AnswerText) → IsReadSoFar pairs found [] t →
+    GivesText t (taken_from pairs 0 found)
+so_far-all pairs found t h =
     subst (GivesText t) (sym h.read) (subst (IsTextOf t) (sym (append-nil h.done)) h.is)
 
 -- a line says nothing
 pub so_far-bad :
-    (found rest : List Numbered) (n : ℕ) (text : List ℕ) (t : AnswerText) (fault : DagFault) →
-    IsReadSoFar found (numbered_line n text ∷ rest) t →
-    IsBadHere fault n (answer_of (length t.dag) (parts_of text)) →
-    TellsBad fault (answers_from 0 found)
-so_far-bad found rest n text t (BadLine m) h bad =
+    (pairs : Bool) (found rest : List Numbered) (n : ℕ) (text : List ℕ) (t : AnswerText)
+    (fault : DagFault) →
+    IsReadSoFar pairs found (numbered_line n text ∷ rest) t →
+    IsBadHere fault n (taken pairs (answer_of (length t.dag) (parts_of text))) →
+    TellsBad fault (taken_from pairs 0 found)
+so_far-bad pairs found rest n text t (BadLine m) h bad =
     h.read
     ∙ ap (λ o. prefixed h.done
-    (answered n (λ b. answers_from (count_with (length t.dag) b) rest) o)) bad.1
+    (answered n (λ b. taken_from pairs (count_with (length t.dag) b) rest) o)) bad.1
     ∙ ap Err (sym bad.0)
-so_far-bad found rest n text t NoMemory h bad = tt
+so_far-bad pairs found rest n text t NoMemory h bad = tt
 
 -- a line defines one formula at most
 few_more :
@@ -203,22 +205,24 @@ few_more old new n a put = by a (count_more old new n a put)
     by (Equivalent x y) e = omega arith
 
 -- the text and the lines that are left after one line more
-pub record IsAfterLine (found left rest : List Numbered) (new : AnswerText) : Type 0 where
-  pub read : IsReadSoFar found rest new
+pub record IsAfterLine
+    (pairs : Bool) (found left rest : List Numbered) (new : AnswerText) : Type 0 where
+  pub read : IsReadSoFar pairs found rest new
   pub room : length new.dag + length rest ≤ 2 ^ 26
 
 pub after_line :
-    (found left rest : List Numbered) (n : ℕ) (text : List ℕ) (a : Answer)
+    (pairs : Bool) (found left rest : List Numbered) (n : ℕ) (text : List ℕ) (a : Answer)
     (old new : AnswerText) (k : ℕ) →
-    IsReadSoFar found left old → length old.dag + length left ≤ 2 ^ 26 →
+    IsReadSoFar pairs found left old → length old.dag + length left ≤ 2 ^ 26 →
     left ≡ numbered_line n text ∷ rest → k ≡ length old.dag →
-    answer_of k (parts_of text) ≡ Some a → IsPut n a old new → IsAfterLine found left rest new
-after_line found left rest n text a old new k h room first count said put =
+    taken pairs (answer_of k (parts_of text)) ≡ Some a → IsPut n a old new →
+    IsAfterLine pairs found left rest new
+after_line pairs found left rest n text a old new k h room first count said put =
     let long : length left ≡ suc (length rest) = ap length first in
     record {
       read =
-          so_far-more found rest n text a old new
-          (subst (λ ls. IsReadSoFar found ls old) first h)
-          (subst (λ m. answer_of m (parts_of text) ≡ Some a) count said) put;
+          so_far-more pairs found rest n text a old new
+          (subst (λ ls. IsReadSoFar pairs found ls old) first h)
+          (subst (λ m. taken pairs (answer_of m (parts_of text)) ≡ Some a) count said) put;
       room = omega (arith, few_more old new n a put);
     }

@@ -4,8 +4,9 @@
 -- answer_of k parts      == what a line of these parts says, behind k formulas
 -- answers_of bytes       == what the lines say, with their numbers, or the number of the first bad
 --                           line
+-- certificate_of bytes   == the same, where a line of a pair is a bad line
 -- dag_of bytes           == the formulas of the lines, or the number of the first bad line
-use Rattle.std.specs.Prelude.{ℕ, ◌+◌, ◌&&◌, ◌==◌, Bool, if◌then◌else◌, nat_lt, List, [], ◌∷◌, codes, length, filter, Option, Some, None, option_map, option_and_then, Result, Ok, Err}
+use Rattle.std.specs.Prelude.{ℕ, ◌+◌, ◌&&◌, ◌||◌, ◌==◌, Bool, true, false, if◌then◌else◌, nat_lt, List, [], ◌∷◌, codes, length, filter, Option, Some, None, option_map, option_and_then, Result, Ok, Err}
 use Rattle.std.specs.List.{slice_split, list_all}
 use Rattle.std.specs.Fmt.{decimal}
 use Rattle.file_cut.specs.Bytes.{is_blank, is_word_byte}
@@ -120,16 +121,33 @@ abbrev pub answered :
 answered line later None = Err line
 answered line later (Some a) = with_answer line a (later a)
 
--- what lines say behind k formulas, with their numbers, or the number of the first bad line
-abbrev pub answers_from : ℕ → List Numbered → Result (List (ℕ × Answer)) ℕ
-answers_from k [] = Ok []
-answers_from k (line ∷ lines) =
-    answered line.number (λ a. answers_from (count_with k a) lines)
-    (answer_of k (parts_of line.text))
+-- the answer tells of no pair: it defines a formula or gives one to a block
+abbrev pub tells_no_pair : Answer → Bool
+tells_no_pair (Defines f) = true
+tells_no_pair (Block f names) = true
+tells_no_pair (Separates x y f) = false
+tells_no_pair (Equivalent x y) = false
+
+-- what a line says, where lines of pairs are taken or say nothing
+abbrev pub taken : (pairs : Bool) → Option Answer → Option Answer
+taken pairs None = None
+taken pairs (Some a) = if pairs || tells_no_pair a then Some a else None
+
+-- What lines say behind k formulas, with their numbers, or the number of the first bad line. Lines
+-- of pairs are taken or bad.
+abbrev pub taken_from : (pairs : Bool) → ℕ → List Numbered → Result (List (ℕ × Answer)) ℕ
+taken_from pairs k [] = Ok []
+taken_from pairs k (line ∷ lines) =
+    answered line.number (λ a. taken_from pairs (count_with k a) lines)
+    (taken pairs (answer_of k (parts_of line.text)))
 
 -- what the lines of a file say, with their numbers, or the number of the first bad line
 abbrev pub answers_of : List ℕ → Result (List (ℕ × Answer)) ℕ
-answers_of bytes = answers_from 0 (lines_of bytes)
+answers_of bytes = taken_from true 0 (lines_of bytes)
+
+-- the same of formula and block lines alone: a line of a pair is a bad line
+abbrev pub certificate_of : List ℕ → Result (List (ℕ × Answer)) ℕ
+certificate_of bytes = taken_from false 0 (lines_of bytes)
 
 -- the formula of an answer before others, if it defines one
 abbrev pub with_formula : Answer → List Formula → List Formula

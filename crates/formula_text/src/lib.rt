@@ -24,6 +24,6 @@ mod writing;
 
 pub use answer::{AnswerText, BlockLine};
 pub use fault::DagFault;
-pub use laws::dag_texts_are_read;
-pub use reading::read_answers;
+pub use laws::{answer_texts_are_read, answers_have_formulas_and_blocks, dag_texts_are_read};
+pub use reading::{read_answers, read_certificate};
 pub use writing::dag_text;

@@ -1,8 +1,8 @@
 //! What the parts of a line say.
-ghost use Rattle.std.specs.Prelude.{◌≡◌, ◌∷◌, map, ℕ, option_map, IfSome, IfOk};
+ghost use Rattle.std.specs.Prelude.{◌≡◌, ◌∷◌, map, ℕ, option_map, Some, IfSome, IfOk};
 ghost use Rattle.std.specs.List.{list_all};
 ghost use Rattle.formulas.specs.Formulas.{CitesBelow};
-ghost use Rattle.formula_text.specs.Answers.{is_word as is_name, answer_of, defined_by, formula_name};
+ghost use Rattle.formula_text.specs.Answers.{is_word as is_name, answer_of, taken, defined_by, formula_name};
 ghost use Rattle.formula_text.specs.Answers.{block_of as is_block, separates_of as is_separation};
 ghost use Rattle.formula_text.specs.Answers.{equivalent_of as is_equivalence};
 ghost use Rattle.formula_text.specs.Numbers.{is_same};
@@ -25,6 +25,30 @@ pub enum Said<'a> {
     Separates(&'a [u8], &'a [u8], u32),
     /// Two states that are equivalent.
     Equivalent(&'a [u8], &'a [u8]),
+}
+
+/// What is said, where lines of pairs are taken or say nothing.
+pub fn taken_said<'a>(pairs: bool, said: Option<Said<'a>>) -> Option<Said<'a>>
+    ensures taken { option_map answer_in result ≡ taken pairs (option_map answer_in said.entry) }
+    ensures same { IfSome result (λ s. said.entry ≡ Some s) }
+{
+    match said? {
+        Said::Separates(x, y, f) => {
+            if pairs {
+                Some(Said::Separates(x, y, f))
+            } else {
+                None
+            }
+        }
+        Said::Equivalent(x, y) => {
+            if pairs {
+                Some(Said::Equivalent(x, y))
+            } else {
+                None
+            }
+        }
+        other => Some(other),
+    }
 }
 
 /// Whether the part is one or more bytes of words.

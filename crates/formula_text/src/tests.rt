@@ -104,3 +104,28 @@ fn a_text_is_read_and_written_again(rt: HostRuntime) {
     let wanted = "f0 = true\nf1 = at 3 [1/2,0,-1/2] f0 f0\nf2 = and f1 f0\n";
     assert_eq!(rt; written.as_slice(), wanted.as_bytes());
 }
+
+/// The number of the first line that is bad in a certificate, and 0 if all are good.
+fn first_bad_in_certificate(alloc: Global, text: &[u8]) -> u32 {
+    if text.len() > 1 << 26 {
+        return 4;
+    }
+    match read_certificate(alloc, text) {
+        Ok(_) => 0,
+        Err(DagFault::BadLine { line }) => line,
+        Err(DagFault::NoMemory) => 5,
+    }
+}
+
+#[test]
+fn a_certificate_has_blocks_and_no_pairs(rt: HostRuntime) {
+    for (text, bad) in [
+        ("f0 = true\nblock f0 a b\n", 0),
+        ("f0 = true\nseparates a b f0\nf2 = true\n", 2),
+        ("f0 = true\n\nequivalent a b\n", 3),
+        ("f0 = not f0\nequivalent a b\n", 1),
+    ] {
+        let found = first_bad_in_certificate(rt.alloc(), text.as_bytes());
+        assert_eq!(rt; found, bad, "{text}");
+    }
+}

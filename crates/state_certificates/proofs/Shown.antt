@@ -3,15 +3,16 @@
 -- value_form       == the value of a structure that fits has the form of its node
 -- fits_inside      == what fits is at a node of the term
 -- form_shown       == what a sorted state shows has the form of its node
--- forms            == so has each modality
--- all_fit          == and it fits, where each sorted state is at a layer node
-use Rattle.std.proofs.Common.{◌≡◌, ◌<◌, ◌≤◌, ◌==◌, ◌&&◌, ◌+◌, ◌*◌, ◌^◌, ℕ, zero, suc, Bool, true, false, List, [], ◌∷◌, length, map, Option, Some, None, slice_get, refl, sym, ◌∙◌, ap, subst, inl, inr, true≢false, arith}
-use Rattle.std.specs.Prelude.{slice_index, All, nat_lt, nat_le, if◌then◌else◌}
+-- layer_shown      == and is at a layer node
+-- writable_shown   == and can be written
+-- forms, all_fit, all_writable   == so it is with each modality
+use Rattle.std.proofs.Common.{◌≡◌, ◌<◌, ◌≤◌, ◌==◌, ◌&&◌, ◌||◌, not, ◌+◌, ◌*◌, ◌^◌, ℕ, zero, suc, Bool, true, false, List, [], ◌∷◌, length, map, Option, Some, None, slice_get, refl, sym, ◌∙◌, ap, subst, inl, inr, true≢false, arith}
+use Rattle.std.specs.Prelude.{slice_index, slice_index_or, All, nat_lt, nat_le, if◌then◌else◌}
 use Rattle.std.specs.List.{list_all, list_any, zip, AllZip}
 use Rattle.std.specs.Option.{option_map_or}
 use Rattle.std.proofs.lemmas.Bool.{and_parts, and_from, eq-eqb, eqb-true}
 use Rattle.std.proofs.lemmas.Bool.Decides.{nat_tests}
-use Rattle.std.proofs.lemmas.Option.{slice_get_cases}
+use Rattle.std.proofs.lemmas.Option.{slice_get_cases, slice_get-get_or}
 use Rattle.modalities.specs.declared.three.Three.{Three}
 use Rattle.sorted_systems.specs.Systems.{Sorted, IsState}
 use Rattle.functor_terms.specs.declared.node.Branch.{Branch}
@@ -19,23 +20,28 @@ use Rattle.functor_terms.specs.declared.node.Node.{Node}
 use Rattle.functor_terms.specs.declared.node.Node.TheVariants.{State, Constant, Naturals, Product, Sum, Power, Powerset, Bag, Distribution, Integers, Rationals}
 use Rattle.functor_terms.specs.Terms.{Nodes, IsTerm, node_at, children_at, label_count, fold_within}
 use Rattle.functor_terms.proofs.Folds.{fold-at}
+use Rattle.functor_terms.proofs.FewChildren.{children-few}
+use Rattle.functor_terms.proofs.TermLaws.{term-some}
 use Rattle.typing.specs.declared.value.Value.{Value, Value-F, out-Value}
 use Rattle.typing.specs.Values.{label_in, index_in, inner_in, parts_in, index, inner, parts}
 use Rattle.typing.specs.Fits.{Check, no_check, check_at, each_fits, fits_level, fits_step, fits}
-use Rattle.typing.specs.Layers.{Place, at_child, child_places, children_of}
+use Rattle.typing.specs.Layers.{Place, is_state, at_child, child_places, children_of}
 use Rattle.typing.proofs.TermFacts.{child_exists}
 use Rattle.layers.specs.Nest.{AnyShape, AnyLabel, any_node, any_value}
-use Rattle.structures.specs.Structures.{Occurrence, LeadsBy, numbers_below}
+use Rattle.structures.specs.Structures.{Occurrence, LeadsBy, IsLayer, numbers_below}
 use Rattle.desorting.specs.declared.system.System.{System}
 use Rattle.desorting.specs.Shapes.{sorted_of}
 use Rattle.desorting.specs.Desorted.{packed_system, IsDesorted}
 use Rattle.desorting.specs.Laws.{ValuesAreOfLayers}
 use Rattle.formulas.specs.declared.formula.Formula.{Formula}
 use Rattle.formulas.specs.declared.formula.Formula.TheVariants.{True, Not, And, At}
+use Rattle.formulas.specs.Ranges.{IsWritableValue, IsWritable}
 use Rattle.formula_checker.specs.LayerValues.{bit_of, members_of, layer_value}
 use Rattle.satisfaction.specs.Modalities.{has_form, is_layer, AllFit}
 use Rattle.formula_builder.specs.SortedLayers.{IsShown, BlocksAreTold}
-use Rattle.state_certificates.specs.Certificates.{HaveForms, AreAtLayers}
+use Rattle.state_certificates.specs.Certificates.{HaveForms}
+use Rattle.state_certificates.proofs.TermNodes.{node_known}
+use Rattle.state_certificates.proofs.Writable.{value_writable}
 use Rattle.state_certificates.proofs.Alike.{node, value, read, map_at, map_back, leaves_are, node_of_shape}
 
 -- what fits one level
@@ -182,6 +188,17 @@ fits_inside t p v fit = elim (slice_get_cases t p).1 [
   | inr past ↦ absurd (true≢false (sym fit ∙ none_within t p v past.1 (length t)))
 ]
 
+-- node 0, and each node that is no State node, passes the test for layer nodes
+layer_test : (t : Nodes) (p : ℕ) → IsLayer t p → is_layer t p ≡ true
+layer_test t p h = elim h [
+  | inl root ↦ ap (λ b. b || not (is_state (node_at t p))) (eq-eqb p 0 root)
+  | inr other ↦ ap (λ b. (p == 0) || not b) other ∙ or_true (p == 0)
+]
+  where
+    or_true : (b : Bool) → (b || true) ≡ true
+    or_true true = refl
+    or_true false = refl
+
 module _
     (t : Nodes) (term : IsTerm t) (d : ℕ) (values : List Value) (s : System)
     (desorted : IsDesorted t values d s) (values_of : ValuesAreOfLayers) where
@@ -195,6 +212,70 @@ module _
       (sym (ap (λ (l : List (Sorted AnyShape AnyLabel)). slice_get l x) desorted.system)
       ∙ map_at (read t d values s desorted values_of) (packed_system s) x a is)
 
+  -- the structure at node q that has the value v, and the trits of its children
+  pub record IsSeen (q : ℕ) (v : Three) : Type 0 where
+    pub place : ℕ
+    pub structure : Occurrence
+    pub at : slice_get desorted.occurrences place ≡ Some structure
+    pub node_is : structure.node ≡ q
+    pub trits : List ℕ
+    pub small : All (λ x. x ≤ 2) trits
+    pub one_each : length trits ≡ length (children_of t (structure.node, structure.value))
+    pub value_is : layer_value d (node_at t structure.node) structure.value trits ≡ v
+
+  -- what a sorted state shows is seen at its structure
+  seen :
+      (q : ℕ) (v : Three) →
+      IsShown (node t d values s desorted values_of) (value t d values s desorted values_of)
+      (packed_system s) q v → IsSeen q v
+  seen q v shown =
+      let (o, at, same) = occurrence_of shown.place shown.state shown.is_state in
+      let edges : length (children_of t (o.node, o.value)) ≡ length o.targets =
+      sym (ap (λ (ps : List Place). length ps) (leaves_are t (length t) (o.node, o.value)))
+      ∙ zip_length (λ (place : Place) (y : ℕ).
+      LeadsBy desorted.occurrences (numbers_below (length values)) (node_at t place.0) place y)
+      _ o.targets (desorted.sorting.linked shown.place o at) in
+      record {
+        place = shown.place;
+        structure = o;
+        at = at;
+        node_is =
+            sym (node_of_shape (node_at t o.node) o.node o.value (length o.targets))
+            ∙ ap (λ (b : Sorted AnyShape AnyLabel). any_node b.shape) same ∙ shown.node_is;
+        trits = shown.trits;
+        small = shown.small;
+        one_each =
+            shown.one_each ∙ sym (ap (λ (b : Sorted AnyShape AnyLabel). length b.targets) same)
+            ∙ sym edges;
+        value_is =
+            sym (values_of d o.node (length o.targets) t o.value shown.trits)
+            ∙ sym (ap (λ n. any_value n (sorted_of t o).shape (sorted_of t o).labels shown.trits)
+            desorted.denominator)
+            ∙ ap (λ (b : Sorted AnyShape AnyLabel).
+            any_value s.iface.denominator b.shape b.labels shown.trits) same
+            ∙ shown.value_is;
+      }
+
+  -- a structure is at a node of the term
+  inside : (q : ℕ) (v : Three) (is : IsSeen q v) → is.structure.node < length t
+  inside q v is =
+      fits_inside t is.structure.node is.structure.value
+      (desorted.sorting.fit is.place is.structure is.at)
+
+  -- its value has the form of the node
+  form :
+      (q : ℕ) (v : Three) (is : IsSeen q v) →
+      has_form (node_at t is.structure.node) (length (children_at t is.structure.node))
+      (layer_value d (node_at t is.structure.node) is.structure.value is.trits) ≡ true
+  form q v is =
+      let o = is.structure in
+      let level : fits_step (node_at t o.node) (map (fits t) (children_at t o.node)) o.value
+      ≡ true =
+      sym (ap (λ (f : Check). f o.value) (fold-at no_check fits_step t term o.node (inside q v is)))
+      ∙ desorted.sorting.fit is.place o is.at in
+      value_form t d (node_at t o.node) (children_at t o.node) o.node o.value is.trits level
+      is.one_each is.small
+
   -- what a sorted state shows has the form of its node
   pub form_shown :
       (q : ℕ) (v : Three) →
@@ -202,36 +283,38 @@ module _
       (packed_system s) q v →
       (q < length t) × (has_form (node_at t q) (length (children_at t q)) v ≡ true)
   form_shown q v shown =
-      let (o, at, same) = occurrence_of shown.place shown.state shown.is_state in
-      let here : o.node ≡ q =
-      sym (node_of_shape (node_at t o.node) o.node o.value (length o.targets))
-      ∙ ap (λ (b : Sorted AnyShape AnyLabel). any_node b.shape) same ∙ shown.node_is in
-      let fit : fits t o.node o.value ≡ true = desorted.sorting.fit shown.place o at in
-      let inside : o.node < length t = fits_inside t o.node o.value fit in
-      let edges : length (children_of t (o.node, o.value)) ≡ length o.targets =
-      sym (ap (λ (ps : List Place). length ps) (leaves_are t (length t) (o.node, o.value)))
-      ∙ zip_length (λ (place : Place) (y : ℕ).
-      LeadsBy desorted.occurrences (numbers_below (length values)) (node_at t place.0) place y)
-      _ o.targets (desorted.sorting.linked shown.place o at) in
-      let size : length shown.trits ≡ length (children_of t (o.node, o.value)) =
-      shown.one_each ∙ sym (ap (λ (b : Sorted AnyShape AnyLabel). length b.targets) same)
-      ∙ sym edges in
-      let level : fits_step (node_at t o.node) (map (fits t) (children_at t o.node)) o.value
-      ≡ true =
-      sym (ap (λ (f : Check). f o.value) (fold-at no_check fits_step t term o.node inside)) ∙ fit in
-      let value_is : v ≡ layer_value d (node_at t o.node) o.value shown.trits =
-      sym shown.value_is
-      ∙ sym (ap (λ (b : Sorted AnyShape AnyLabel).
-      any_value s.iface.denominator b.shape b.labels shown.trits) same)
-      ∙ ap (λ n. any_value n (sorted_of t o).shape (sorted_of t o).labels shown.trits)
-      desorted.denominator
-      ∙ values_of d o.node (length o.targets) t o.value shown.trits in
-      let form : has_form (node_at t o.node) (length (children_at t o.node)) v ≡ true =
-      ap (has_form (node_at t o.node) (length (children_at t o.node))) value_is
-      ∙ value_form t d (node_at t o.node) (children_at t o.node) o.node o.value shown.trits
-      level size shown.small in
+      let is = seen q v shown in
+      let here : has_form (node_at t is.structure.node)
+      (length (children_at t is.structure.node)) v ≡ true =
+      subst (λ w. has_form (node_at t is.structure.node)
+      (length (children_at t is.structure.node)) w ≡ true) is.value_is (form q v is) in
       subst (λ p. (p < length t) × (has_form (node_at t p) (length (children_at t p)) v ≡ true))
-      here (inside, form)
+      is.node_is (inside q v is, here)
+
+  -- and is at a layer node
+  pub layer_shown :
+      (q : ℕ) (v : Three) →
+      IsShown (node t d values s desorted values_of) (value t d values s desorted values_of)
+      (packed_system s) q v → is_layer t q ≡ true
+  layer_shown q v shown =
+      let is = seen q v shown in
+      subst (λ p. is_layer t p ≡ true) is.node_is
+      (layer_test t is.structure.node (desorted.sorting.at_layers is.place is.structure is.at))
+
+  -- and can be written
+  pub writable_shown :
+      1 ≤ d → d ≤ 2 ^ 40 → (q : ℕ) (v : Three) →
+      IsShown (node t d values s desorted values_of) (value t d values s desorted values_of)
+      (packed_system s) q v → (q < 256) × IsWritableValue v
+  writable_shown some few q v shown =
+      let is = seen q v shown in
+      let o = is.structure in (
+        omega (arith, is.node_is, inside q v is, (term-some t term).1),
+        subst IsWritableValue is.value_is
+            (value_writable d some few (node_at t o.node) (length (children_at t o.node))
+            (node_known t term o.node) (children-few t term o.node) o.value
+            (desorted.sorting.within is.place o is.at) is.trits is.small (form q v is)),
+      )
 
   module _
       (dag : List Formula) (formulas block_of : List ℕ)
@@ -241,18 +324,27 @@ module _
     pub forms : HaveForms t dag
     forms k q v splitter coarse e = form_shown q v (told.shown k q v splitter coarse e)
 
-    -- and fits, where each sorted state is at a layer node
-    pub all_fit : AreAtLayers t s → AllFit t dag
-    all_fit layers k True e = refl
-    all_fit layers k (Not i) e = refl
-    all_fit layers k (And i j) e = refl
-    all_fit layers k (At q v splitter coarse) e =
+    -- and fits
+    pub all_fit : AllFit t dag
+    all_fit k True e = refl
+    all_fit k (Not i) e = refl
+    all_fit k (And i j) e = refl
+    all_fit k (At q v splitter coarse) e =
         let shown = told.shown k q v splitter coarse e in
-        let (inside, form) = form_shown q v shown in
-        let layer : is_layer t q ≡ true =
-        subst (λ p. is_layer t p ≡ true) shown.node_is
-        (layers shown.place shown.state shown.is_state) in
+        let (below, has) = form_shown q v shown in
         let within : nat_lt q (length t) ≡ true = grind (arith, nat_tests) in
         and_from (nat_lt q (length t) && is_layer t q)
         (has_form (node_at t q) (length (children_at t q)) v)
-        (and_from (nat_lt q (length t)) (is_layer t q) within layer) form
+        (and_from (nat_lt q (length t)) (is_layer t q) within (layer_shown q v shown)) has
+
+    -- and can be written
+    pub all_writable : 1 ≤ d → d ≤ 2 ^ 40 → All IsWritable dag
+    all_writable some few k other h =
+        by (slice_index_or dag k other) (slice_get-get_or dag k other h)
+      where
+        by : (f : Formula) → slice_get dag k ≡ Some f → IsWritable f
+        by True e = tt
+        by (Not i) e = tt
+        by (And i j) e = tt
+        by (At q v splitter coarse) e =
+            writable_shown some few q v (told.shown k q v splitter coarse e)

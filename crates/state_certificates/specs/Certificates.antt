@@ -7,21 +7,19 @@
 -- FormulasSeparate c     == that is so exactly where they are equivalent
 -- HaveForms t dag        == each modality has the form of its node
 -- IsSeparation           == a formula tells two states apart, and its list has nothing else
--- AreAtLayers t s        == each sorted state is a structure at a layer node
-use Rattle.std.specs.Prelude.{◌≡◌, [], ◌∷◌, List, Some, IsTrue, slice_get, ◌↔◌, ◌<◌, ℕ, length, slice_index}
+-- AreCertificates c told == all that is promised of the formulas of the states at once
+use Rattle.std.specs.Prelude.{◌≡◌, [], ◌∷◌, List, Some, IsTrue, slice_get, ◌↔◌, ◌<◌, ◌≤◌, ◌+◌, ◌*◌, ℕ, length, slice_index, All}
 use Rattle.typing.specs.Contents.{Content}
 use Rattle.typing.specs.Stable.{AreEquivalent}
+use Rattle.typing.specs.Layers.{sorted_count}
 use Rattle.functor_terms.specs.Terms.{Nodes, node_at, children_at}
 use Rattle.modalities.specs.declared.three.Three.{Three}
 use Rattle.formulas.specs.declared.formula.Formula.{Formula}
 use Rattle.formulas.specs.declared.formula.Formula.TheVariants.{At}
 use Rattle.formulas.specs.Formulas.{IsDag}
-use Rattle.layers.specs.Nest.{any_node}
-use Rattle.layers.specs.Meanings.{shape_of}
-use Rattle.desorting.specs.declared.system.System.{System}
-use Rattle.desorting.specs.Desorted.{packed_system}
-use Rattle.satisfaction.specs.Modalities.{has_form, is_layer}
-use Rattle.sorted_systems.specs.Systems.{Sorted, IsState, class_in}
+use Rattle.formulas.specs.Ranges.{IsWritable}
+use Rattle.satisfaction.specs.Modalities.{has_form, AllFit}
+use Rattle.sorted_systems.specs.Systems.{class_in}
 use Rattle.formula_builder.specs.Certified.{Certified}
 use Rattle.formula_builder.specs.Cited.{IsCited}
 use Rattle.satisfaction.specs.Satisfaction.{HoldsAt}
@@ -56,12 +54,6 @@ HaveForms t dag =
     slice_get dag k ≡ Some (At q v splitter coarse) →
     (q < length t) × IsTrue (has_form (node_at t q) (length (children_at t q)) v)
 
--- each sorted state is a structure at a layer node of the term
-abbrev pub AreAtLayers : Nodes → System → Type 0
-AreAtLayers t s =
-    (x : ℕ) (a : Sorted ℕ ℕ) → IsState (packed_system s) x a →
-    IsTrue (is_layer t (any_node (shape_of s.iface.shapes.items a.shape)))
-
 -- Formula k of the list holds at state i and fails at state j, and each formula of the list is k or
 -- cited on the way from it.
 pub record IsSeparation (c : Content) (i j : ℕ) (dag : List Formula) (k : ℕ) : Type 0 where
@@ -69,6 +61,15 @@ pub record IsSeparation (c : Content) (i j : ℕ) (dag : List Formula) (k : ℕ)
   pub holds : HoldsAt c dag k i
   pub fails : HoldsAt c dag k j → ⊥
   pub cited : (n : ℕ) → n < length dag → IsCited dag (k ∷ []) n
+
+-- Formulas of the states of a coalgebra: that of a state holds at exactly the states that are
+-- equivalent to it, each formula fits the term and can be written, and there are few of them.
+pub record AreCertificates (c : Content) (told : Certified) : Type 0 where
+  pub exact : StatesAreTold c told
+  pub one_each : length c.values ≤ length told.block_of
+  pub fit : AllFit c.term told.dag
+  pub writable : All IsWritable told.dag
+  pub few : length told.dag ≤ 6 * sorted_count c.term c.values + 1
 
 -- each formula of each list holds at both states, or at none
 abbrev pub HaveOneTruth : Content → ℕ → ℕ → Type 0

@@ -1,1 +1,4 @@
 pub mod Certificates
+pub mod Explained
+pub mod Classed
+pub mod Groups

@@ -1,14 +1,16 @@
 //! The formulas of the blocks, as those of the states.
 
-ghost use Rattle.std.specs.Prelude.{◌≡◌, ◌+◌, ◌*◌, ◌≤◌, length, IfOk};
+ghost use Rattle.std.specs.Prelude.{◌≡◌, ◌+◌, ◌*◌, ◌≤◌, length, All, IfOk};
 ghost use Rattle.typing.specs.Contents.{content_of};
 ghost use Rattle.classes.specs.Refined.{IsRefined};
 ghost use Rattle.desorting.specs.Desorted.{IsDesorted};
-ghost use Rattle.state_certificates.specs.Certificates.{StatesAreTold, TellApart, FormulasSeparate, HaveForms, AreAtLayers};
+ghost use Rattle.formulas.specs.Ranges.{IsWritable};
 ghost use Rattle.satisfaction.specs.Modalities.{AllFit};
+ghost use Rattle.state_certificates.specs.Certificates.{StatesAreTold, TellApart, FormulasSeparate, HaveForms, AreCertificates};
 
 use desorting::{
-    System, greatest_is_equivalence, sorted_states_are_a_system, values_are_of_layers,
+    System, greatest_is_equivalence, sorted_states_are_a_system,
+    stable_labellings_give_stable_lists, values_are_of_layers,
 };
 use formula_builder::{Certificates, build};
 use refiner::Refined;
@@ -31,13 +33,15 @@ pub fn state_formulas(
     ensures apart { IfOk result (λ told. TellApart (content_of c.now) told) }
     ensures separate { IfOk result (λ _. FormulasSeparate (content_of c.now)) }
     ensures forms { IfOk result (λ told. HaveForms c.now.term told.dag) }
-    ensures fit { IfOk result (λ told.
-        AreAtLayers c.now.term system.now → AllFit c.now.term told.dag) }
+    ensures fit { IfOk result (λ told. AllFit c.now.term told.dag) }
+    ensures writable { IfOk result (λ told. All IsWritable told.dag) }
     ensures few { IfOk result (λ told. length told.dag ≤ 6 * system.now.edges.0 + 1) }
     ensures same_blocks { IfOk result (λ told. told.block_of ≡ refined.now.block_of) }
+    ensures certificates { IfOk result (λ told. AreCertificates (content_of c.now) told) }
 {
     sorted_states_are_a_system();
     greatest_is_equivalence();
+    stable_labellings_give_stable_lists();
     values_are_of_layers();
     equivalent_states_have_one_truth();
     let _nodes = c.term.len();

@@ -56,6 +56,16 @@ filtered_at {X = X} p (y ∷ ys) i x e = by (p y) refl i e (filtered_at p ys)
     by true q (suc i) e later = let (j, at, passes) = later i x e in (suc j, at, passes)
     by false q i e later = let (j, at, passes) = later i x e in (suc j, at, passes)
 
+-- what is in the layers of some places is at no State node
+pub layer_at :
+    (t : Nodes) (xs : List Place) (i : ℕ) (x : Place) → slice_get (layers_in t xs) i ≡ Some x →
+    is_state_at t x ≡ false
+layer_at t xs i x e = by (is_state_at t x) (filtered_at (λ y. not (is_state_at t y)) xs i x e).2
+  where
+    by : (b : Bool) → not b ≡ true → b ≡ false
+    by true h = absurd (true≢false (sym h))
+    by false h = refl
+
 map_same : {X A : Type 0} (f g : X → A) (xs : List X) → ((i : ℕ) (x : X) → slice_get xs i ≡ Some x → f x ≡ g x) → map f xs ≡ map g xs
 map_same f g [] h = refl
 map_same f g (x ∷ xs) h = λ k. h 0 x refl k ∷ map_same f g xs (λ i y e. h (suc i) y e) k

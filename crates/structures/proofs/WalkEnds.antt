@@ -10,7 +10,7 @@ use Rattle.typing.specs.Fits.{fits}
 use Rattle.typing.specs.Bounds.{is_within}
 use Rattle.typing.specs.Layers.{Place, leaves_of, added, sorted_in, edges_in}
 use Rattle.edge_store.specs.Edges.{chosen}
-use Rattle.structures.specs.Structures.{Occurrence, StandsFor, LeadsBy, IsSorting, numbers_on, numbers_below, occurrences_from, sources_from, AreStructures}
+use Rattle.structures.specs.Structures.{Occurrence, StandsFor, LeadsBy, IsLayer, IsSorting, numbers_on, numbers_below, occurrences_from, sources_from, AreStructures}
 use Rattle.structures.specs.Walk.{LeadsTo, IsWalked}
 use Rattle.structures.proofs.Chosen.{sources_ascend, sources_inside, all_of}
 use Rattle.structures.proofs.Sound.{some_first, none_some, within}
@@ -129,6 +129,9 @@ module _
         let (x, at_x, is_x) = place_of sources targets 0 places y o e in
         subst (λ (o : Occurrence). is_within (2 ^ 106) o.value ≡ true) is_x
         (walked.fit y x at_x).2;
+    at_layers = λ y o e.
+        let (x, at_x, is_x) = place_of sources targets 0 places y o e in
+        subst (λ (o : Occurrence). IsLayer t o.node) is_x (walked.at_layers y x at_x);
   }
 
   walked_sources : sources ≡ sources_from t 0 places

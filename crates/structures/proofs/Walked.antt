@@ -1,5 +1,5 @@
 -- One step of the walk keeps its facts.
-use Rattle.std.proofs.Common.{◌≡◌, ℕ, zero, suc, ◌+◌, ◌<◌, ◌≤◌, ◌^◌, Bool, true, false, not, cond, List, [], ◌∷◌, ◌++◌, length, map, take, drop, Some, slice_get, refl, sym, ap, ◌∙◌, subst, ⊎_elim, arith, length-append}
+use Rattle.std.proofs.Common.{◌≡◌, ℕ, zero, suc, ◌+◌, ◌<◌, ◌≤◌, ◌^◌, Bool, true, false, not, cond, List, [], ◌∷◌, ◌++◌, length, map, take, drop, Some, slice_get, refl, sym, ap, ◌∙◌, subst, ⊎_elim, inl, inr, arith, length-append}
 use Rattle.std.specs.Prelude.{◌⊎◌, unwrap_or}
 use Rattle.std.specs.List.{list_all, AllByRecursion, AllZip}
 use Rattle.functor_terms.specs.declared.node.Node.{Node}
@@ -16,7 +16,7 @@ use Rattle.structures.specs.Structures.{repeated, sources_from}
 use Rattle.structures.specs.Walk.{targets_of, LeadsTo, IsWalked}
 use Rattle.structures.proofs.Expands.{drop_at, append_none}
 use Rattle.structures.proofs.Chosen.{length-repeated, chosen-append, chosen-repeated, chosen-other, chosen-past, sources-snoc, take_next}
-use Rattle.structures.proofs.Sound.{IsSound, some_first, none_some, kept_at, either_at, first_part, within, drop-append, added-append, kid_sound, layer_later, over-at, all_kept, kids_lead, fits_inside}
+use Rattle.structures.proofs.Sound.{IsSound, some_first, none_some, kept_at, either_at, layer_at, first_part, within, drop-append, added-append, kid_sound, layer_later, over-at, all_kept, kids_lead, fits_inside}
 use Rattle.std.proofs.lemmas.Bool.Decides.{nat_tests}
 use Rattle.std.specs.Prelude.{◌==◌}
 
@@ -182,6 +182,8 @@ module _
         (λ new. let good = (layer_later t is n x sound new.0 z new.1).2 in
         (good.fit, good.below, good.within)) (either_at places more y z e);
     enough = omega (arith, walked.enough, length-append places more);
+    at_layers = λ y z e. ⊎_elim (λ old. walked.at_layers y z old)
+        (λ new. inr (layer_at t (leaves_of t x) new.0 z new.1)) (either_at places more y z e);
     by_source = kept_sources;
     one_each =
         omega (
@@ -331,6 +333,8 @@ module _
           each_of (is_within (2 ^ 106)) values in_bounds y v at_v,
         );
     enough = omega (arith, roots_count values);
+    at_layers = λ y x e.
+        let (v, at_v, is_v) = value_at values y x e in inl (ap (λ (z : Place). z.0) (sym is_v));
     by_source = sym (ap (λ l. sources_from t 0 l) (none_taken (roots_of values)));
     one_each = refl;
     inside = tt;

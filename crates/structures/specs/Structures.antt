@@ -3,12 +3,13 @@
 --
 -- Occurrence                      a structure where it stands, and where its edges lead
 -- StandsFor, LeadsBy              what a number stands for, and where an edge leads
+-- IsLayer t p                     structures at node p have a layer of their own
 -- IsSorting                       the structures of a coalgebra, and the roots of its states
 -- numbers_below n                 0, 1, 2 and so on, n of them
 -- occurrences_from                the occurrences of structures and of the targets of their edges
 -- sources_from                    each structure's number, as often as edges leave it
 -- AreStructures                   numbered structures, and sources and targets of their edges
-use Rattle.std.specs.Prelude.{◌≡◌, ℕ, zero, suc, ◌+◌, ◌<◌, ◌^◌, List, [], ◌∷◌, ◌++◌, length, slice_get, slice_index, Some, IsTrue, All, AllPairs, ◌≤◌}
+use Rattle.std.specs.Prelude.{◌≡◌, ℕ, zero, suc, ◌+◌, ◌<◌, ◌^◌, ◌⊎◌, false, List, [], ◌∷◌, ◌++◌, length, slice_get, slice_index, Some, IsTrue, All, AllPairs, ◌≤◌}
 use Rattle.std.specs.List.{AllZip}
 use Rattle.functor_terms.specs.declared.node.Node.{Node}
 use Rattle.functor_terms.specs.declared.node.Node.TheVariants.{State}
@@ -17,7 +18,7 @@ use Rattle.typing.specs.declared.value.Value.{Value}
 use Rattle.typing.specs.Values.{state}
 use Rattle.typing.specs.Fits.{fits}
 use Rattle.typing.specs.Bounds.{is_within}
-use Rattle.typing.specs.Layers.{Place, leaves_of, sorted_count, edge_count}
+use Rattle.typing.specs.Layers.{Place, is_state, leaves_of, sorted_count, edge_count}
 use Rattle.edge_store.specs.Edges.{chosen}
 
 -- a structure where it stands, a value at a node, and the numbers of those to which its edges lead
@@ -38,6 +39,10 @@ LeadsBy system roots State place x =
     (i : ℕ) × (state place.1 ≡ Some i) × (i < length roots) × (slice_index roots i ≡ x)
 LeadsBy system roots _ place x = StandsFor system x place.0 place.1
 
+-- the node is node 0, or no State node
+abbrev pub IsLayer : Nodes → ℕ → Type 0
+IsLayer t p = (p ≡ 0) ⊎ (is_state (node_at t p) ≡ false)
+
 -- the structures of a coalgebra, and for each state the number of its root structure
 pub record IsSorting
     (t : Nodes) (values : List Value) (system : List Occurrence) (roots : List ℕ)
@@ -54,6 +59,7 @@ pub record IsSorting
   pub within :
       (x : ℕ) (o : Occurrence) → slice_get system x ≡ Some o →
       IsTrue (is_within (2 ^ 106) o.value)
+  pub at_layers : (x : ℕ) (o : Occurrence) → slice_get system x ≡ Some o → IsLayer t o.node
 
 -- so many numbers, from a first one
 abbrev pub numbers_on : ℕ → ℕ → List ℕ

@@ -13,7 +13,7 @@ use Rattle.typing.specs.Fits.{fits}
 use Rattle.typing.specs.Bounds.{is_within}
 use Rattle.typing.specs.Layers.{Place, is_state_at, leaves_of, added, sorted_in, edges_in, sorted_count, edge_count}
 use Rattle.edge_store.specs.Edges.{chosen}
-use Rattle.structures.specs.Structures.{sources_from}
+use Rattle.structures.specs.Structures.{IsLayer, sources_from}
 
 -- where the places lead, if the next structure has the number `next`: a state to itself, and any
 -- other place to the next structure
@@ -29,8 +29,8 @@ abbrev pub LeadsTo : Node → ℕ → List Place → Place → ℕ → Type 0
 LeadsTo State n places x y = (i : ℕ) × (state x.1 ≡ Some i) × (i < n) × (y ≡ i)
 LeadsTo _ n places x y = slice_get places y ≡ Some x
 
--- The walk has come to a place: the root structures of the states are first, each place before it
--- has its edges, and those behind it are still to be counted.
+-- The walk has come to a place: the root structures of the states are first, all are at layer nodes,
+-- each place before it has its edges, and those behind it are still to be counted.
 pub record IsWalked
     (t : Nodes) (values : List Value) (places : List Place) (sources targets : List ℕ) (at : ℕ)
     : Type 0 where
@@ -41,6 +41,7 @@ pub record IsWalked
       (y : ℕ) (x : Place) → slice_get places y ≡ Some x →
       (fits t x.0 x.1 ≡ true) × (states_below (length values) x.1 ≡ true)
       × (is_within (2 ^ 106) x.1 ≡ true)
+  pub at_layers : (y : ℕ) (x : Place) → slice_get places y ≡ Some x → IsLayer t x.0
   pub by_source : sources ≡ sources_from t 0 (take at places)
   pub one_each : length targets ≡ length sources
   pub inside : AllByRecursion (λ y. y < length places) targets

@@ -1,4 +1,4 @@
-use Rattle.std.proofs.Common.{subst, ℕ, List, sym}
+use Rattle.std.proofs.Common.{subst, ℕ, List, length, sym, ap, arith}
 use Rattle.typing.specs.Contents.{content_of}
 use Rattle.edge_store.specs.declared.edge.Edge.{Edge}
 use Rattle.sorted_systems.specs.Systems.{IsSystem, system_from}
@@ -8,12 +8,13 @@ use Rattle.layers.specs.Nest.{any_node, any_kin, any_value}
 use Rattle.layers.specs.Meanings.{shape_of, label_of, fits_layer}
 use Rattle.layers.specs.declared.layers.Layers.{Layers}
 use Rattle.classes.proofs.Along.{along}
-use Rattle.classes.proofs.Counting.{is_packed}
+use Rattle.classes.proofs.Counting.{is_packed, great}
+use Rattle.classes.proofs.Composed.{enough}
 use Rattle.typing.proofs.Within.{each_below}
 use Rattle.formulas.specs.declared.formula.Formula.{Formula}
 use Rattle.formulas.specs.Formulas.{IsDag}
 use Rattle.state_certificates.proofs.Separations.{separate}
-use Rattle.state_certificates.proofs.Shown.{forms, all_fit}
+use Rattle.state_certificates.proofs.Shown.{forms, all_fit, all_writable}
 use Rattle.state_certificates.proofs.States.{Told, states_told, told_apart}
 use Rattle.state_certificates.proofs.certifying.state_formulas.Goals as goal
 
@@ -96,3 +97,55 @@ returns-clause-fit c =
     (along (Told cert) c.iface.ensures.iface c.shapes-shapes.ensures.shapes
     c.edges-edges.ensures.edges
     c.in_ok-told.ensures.told)
+
+pub returns-clause-writable : goal.returns-clause-writable
+returns-clause-writable c =
+    let now = c.args.c.now in
+    let cert = c.in_ok-told.told in
+    all_writable now.term c.len-nodes.ensures.term now.denominator now.values.items
+    c.args.system.now c.requires.desorted c.values_are_of_layers.ensures cert.dag cert.blocks
+    cert.block_of
+    (along (Told cert) c.iface.ensures.iface c.shapes-shapes.ensures.shapes
+    c.edges-edges.ensures.edges
+    c.in_ok-told.ensures.told)
+    now.positive now.bounded
+
+pub returns-clause-certificates : goal.returns-clause-certificates
+returns-clause-certificates c =
+    let now = c.args.c.now in
+    let cert = c.in_ok-told.told in
+    let told =
+    along (Told cert) c.iface.ensures.iface c.shapes-shapes.ensures.shapes
+    c.edges-edges.ensures.edges c.in_ok-told.ensures.told in
+    record {
+      exact =
+          states_told (content_of now) c.args.system.now c.requires.desorted
+          c.values_are_of_layers.ensures c.greatest_is_equivalence.ensures
+          c.len-nodes.ensures.term c.args.refined.now c.requires.refined cert
+          c.in_ok-told.ensures.same_blocks told;
+      one_each =
+          omega (
+            arith,
+            enough c.greatest_is_equivalence.ensures c.stable_labellings_give_stable_lists.ensures
+                now.term now.values.items c.requires.desorted.occurrences c.len-nodes.ensures.term
+                c.requires.desorted.sorting c.args.refined.now.block_of
+                (great (content_of now) c.args.system.now c.requires.desorted c.args.refined.now
+                c.requires.refined),
+            ap (λ (ns : List ℕ). length ns) c.in_ok-told.ensures.same_blocks,
+          );
+      fit =
+          all_fit now.term c.len-nodes.ensures.term now.denominator now.values.items
+          c.args.system.now c.requires.desorted c.values_are_of_layers.ensures cert.dag cert.blocks
+          cert.block_of told;
+      writable =
+          all_writable now.term c.len-nodes.ensures.term now.denominator now.values.items
+          c.args.system.now c.requires.desorted c.values_are_of_layers.ensures cert.dag cert.blocks
+          cert.block_of told now.positive now.bounded;
+      few =
+          omega (
+            arith,
+            c.in_ok-told.ensures.few,
+            c.shapes-shapes.ensures.one_each,
+            c.requires.desorted.sorted,
+          );
+    }

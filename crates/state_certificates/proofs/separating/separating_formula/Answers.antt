@@ -3,7 +3,8 @@ use Rattle.typing.specs.Contents.{content_of}
 use Rattle.formulas.specs.declared.formula.Formula.{Formula}
 use Rattle.formulas.specs.Formulas.{IsDag}
 use Rattle.formula_builder.specs.Cited.{IsOnlyCited}
-use Rattle.state_certificates.proofs.Separations.{separates, still_fits}
+use Rattle.state_certificates.proofs.Separations.{separates}
+use Rattle.state_certificates.proofs.Cut.{kept_fit}
 use Rattle.state_certificates.proofs.separating.separating_formula.Goals as goal
 
 pub returns-in_ok-cut_out-in-Some-clause-apart : goal.returns-in_ok-cut_out-in-Some-clause-apart
@@ -20,7 +21,6 @@ returns-in_ok-cut_out-in-Some-clause-apart c =
 pub returns-in_ok-cut_out-in-Some-clause-fit : goal.returns-in_ok-cut_out-in-Some-clause-fit
 returns-in_ok-cut_out-in-Some-clause-fit c =
     let s = c.in_ok-cut_out-in-Some.field-0 in
-    still_fits (content_of c.args.c.now) c.args.told.now.dag s.dag c.in-Some.k s.formula
-    (subst (λ (fs : List Formula). IsDag fs) c.dag-dag.ensures c.len-ordered.ensures.ordered)
+    kept_fit c.args.told.now.dag (c.in-Some.k ∷ []) s.dag (s.formula ∷ [])
     (subst (λ (fs : List Formula). IsOnlyCited fs (c.in-Some.k ∷ []) s.dag (s.formula ∷ []))
     c.dag-dag.ensures c.in_ok-cut_out-in-Some.ensures) c.args.c.now.term
