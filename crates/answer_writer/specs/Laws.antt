@@ -5,7 +5,7 @@
 -- BlockLinesCanBeSaid    == lines of blocks are lines of answers
 -- BlockLinesTellNoPair   == and none of them tells of a pair
 -- CertificatesAreRead    == a certificate is read as its formulas and its blocks
--- BlocksAreKept          == the blocks that are read have the formulas and the names that were given
+-- BlocksAreKept          == the blocks that are read have the formulas and names that were given
 -- StatsAreComments       == the line of statistics is a comment
 use Rattle.std.specs.Prelude.{◌≡◌, ◌<◌, ◌+◌, ◌^◌, ℕ, true, List, [], ◌∷◌, ◌++◌, map, length, IfSome, Option, Ok}
 use Rattle.std.specs.List.{All, list_all}
