@@ -1,0 +1,6 @@
+pub mod UseLaws
+pub mod FirstLaws
+pub mod JointLaws
+pub mod ValueTests
+pub mod RowLaws
+pub mod EdgeLaws

@@ -1,0 +1,4 @@
+pub mod Truths
+pub mod Uses
+pub mod Rows
+pub mod Evaluations
