@@ -85,9 +85,9 @@ module _ (t : Nodes) (values : List Value) (numbers : List ℕ) (forms : List Va
         state = in_own;
         first = sym beside;
         unlike = λ likes. apart
-        (equals_tie t numbers u v r s
-        (zip_at R values forms (slice_index firsts y) u r are at at_first)
-        (zip_at R values forms y v s are at' at_own)
-        (likes u v (ap (slice_get values) beside ∙ at) at'));
+            (equals_tie t numbers u v r s
+            (zip_at R values forms (slice_index firsts y) u r are at at_first)
+            (zip_at R values forms y v s are at' at_own)
+            (likes u v (ap (slice_get values) beside ∙ at) at'));
         like_before = like;
       }

@@ -43,11 +43,11 @@ IsSeen numbers y k (Some x) = (x < y) × (first_with numbers k ≡ x)
 
 -- the firsts of the states before y, and the table of the first states with numbers
 pub record IsNoting (numbers : List ℕ) (y : ℕ) (seen : List (Option ℕ)) (firsts : List ℕ) : Type 0
-    where
-  pub known : (k : ℕ) → k < length seen → IsSeen numbers y k (get_or seen k None)
-  pub count : length firsts ≡ y
-  pub first : (i : ℕ) → i < y → get_or firsts i 0 ≡ first_beside numbers i
-  pub no_later : (i : ℕ) → i < y → get_or firsts i 0 ≤ i
+  where
+    pub known : (k : ℕ) → k < length seen → IsSeen numbers y k (get_or seen k None)
+    pub count : length firsts ≡ y
+    pub first : (i : ℕ) → i < y → get_or firsts i 0 ≡ first_beside numbers i
+    pub no_later : (i : ℕ) → i < y → get_or firsts i 0 ≤ i
 
 -- nothing is noted at first
 pub noting-none :

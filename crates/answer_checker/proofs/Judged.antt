@@ -74,8 +74,10 @@ module _ (n : ℕ) (lines : List BlockLine) (once : StandOnce n lines) where
     where
       some : 0 < times_in lines x
       some = omega (arith, once x h)
+
       there : get_or lines k no_line ≡ line
       there = get_or_from_slice_get lines k line no_line at
+
       by : (o : Bool) → has_state line x ≡ o → o ≡ (slice_index (line_numbers lines n) x == k)
       by true has =
           let is = line_of-has lines no_line x some in
@@ -149,8 +151,8 @@ numbers_are n lines places first second numbers same same' count are once is =
     (once lines (subst (ArePlaces lines) (sym same) are)) in (
       stand,
       is lines (subst (ArePlaces lines) (sym same') are)
-      (subst (λ m. StandOnce m lines) (sym (ap length same' ∙ count)) stand)
-      ∙ ap (line_numbers lines) (ap length same' ∙ count),
+          (subst (λ m. StandOnce m lines) (sym (ap length same' ∙ count)) stand)
+          ∙ ap (line_numbers lines) (ap length same' ∙ count),
     )
 
 module _ (c : Content) (told : ℕ → ℕ → Bool) (names : List (List ℕ)) (blocks : List TheBlockLine)

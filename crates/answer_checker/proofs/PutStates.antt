@@ -54,7 +54,7 @@ module _ (lines : List BlockLine) (f : ℕ) (ss : List ℕ) (s : ℕ) where
       times_among-push ss s i ∙ ap (λ (o : Bool). times_among ss i + (if o then 1 else 0)) same in (
         omega (arith, count, is),
         line_of-last lines (line_with f (ss ++ s ∷ [])) i (omega (arith, before, is))
-        (has_counted (line_with f (ss ++ s ∷ [])) i (omega (arith, more))),
+            (has_counted (line_with f (ss ++ s ∷ [])) i (omega (arith, more))),
       )
   place_again i (In k) same is =
       let count : times_in new_lines i ≡ times_in old_lines i + 1 =
@@ -78,7 +78,7 @@ module _ (lines : List BlockLine) (f : ℕ) (ss : List ℕ) (s : ℕ) where
       count_more i ∙ ap (λ (o : Bool). times_in old_lines i + (if o then 1 else 0)) other in (
         omega (arith, count, is.0),
         line_of-same lines (line_with f (ss ++ s ∷ [])) (line_with f ss) i
-        (list_any-push ss s i other) ∙ is.1,
+            (list_any-push ss s i other) ∙ is.1,
       )
   place_still i Again other is =
       let count : times_in new_lines i ≡ times_in old_lines i + 0 =

@@ -46,6 +46,7 @@ cited_below k (b ∷ digits) i e = by (b == letter_f) e
         subst (λ x. x < k) (same_Some n i e')
         (ltb-true n k (and_parts (is_same (decimal n) digits) (nat_lt n k) (sym is)).1)
     at_number false n is e' = absurd (none-some i e')
+
     by : (o : Bool) → (if o then number_below k digits else None) ≡ Some i → i < k
     by true e' =
         at_number (is_same (decimal (number_of digits)) digits && nat_lt (number_of digits) k)
@@ -61,6 +62,7 @@ block_cites k (f ∷ name ∷ names) = by (list_all is_word (name ∷ names))
     found : (o : Option ℕ) → cited k f ≡ o → CitesBlock k (option_map (λ i. Block i (name ∷ names)) o)
     found None e = tt
     found (Some i) e = cited_below k f i e
+
     by : (o : Bool) →
         CitesBlock k (if o then option_map (λ i. Block i (name ∷ names)) (cited k f) else None)
     by true = found (cited k f) refl
@@ -77,6 +79,7 @@ separates_cites k (x ∷ y ∷ f ∷ []) = by (is_word x && is_word y)
     found : (o : Option ℕ) → CitesBlock k (option_map (Separates x y) o)
     found None = tt
     found (Some i) = tt
+
     by : (o : Bool) → CitesBlock k (if o then option_map (Separates x y) (cited k f) else None)
     by true = found (cited k f)
     by false = tt
@@ -98,6 +101,7 @@ defined_cites k name (sign ∷ body) = by (is_same name (formula_name k) && is_s
     found : (o : Option Formula) → CitesBlock k (option_map Defines o)
     found None = tt
     found (Some f) = tt
+
     by : (o : Bool) → CitesBlock k (if o then option_map Defines (body_of k body) else None)
     by true = found (body_of k body)
     by false = tt
@@ -207,8 +211,14 @@ readable bytes t answers short read is =
     let sound = sound_from false 0 (lines_of bytes) answers read in
     record {
       few =
-          omega (arith, sound.few, lines_few 1 bytes, length-map t.blocks.items block_seen,
-          ap length is.blocks, short);
+          omega (
+            arith,
+            sound.few,
+            lines_few 1 bytes,
+            length-map t.blocks.items block_seen,
+            ap length is.blocks,
+            short,
+          );
       cited =
           seen_cited (length t.dag) t.blocks.items
           (subst (All (λ b. b.1 < length t.dag)) (sym is.blocks)

@@ -23,8 +23,6 @@ mod verdict;
 
 pub use fault::AnswerFault;
 pub use judging::verify;
-pub use laws::{
-    passing_answers_are_right, there_is_one_verdict, verdicts_look_at_truths_alone,
-};
+pub use laws::{passing_answers_are_right, there_is_one_verdict, verdicts_look_at_truths_alone};
 pub use reading::read_formulas;
 pub use verdict::{Reason, Verdict};

@@ -132,11 +132,7 @@ const ROWS: &[(&str, &[u8], &[u8])] = &[
         b"f0 = true\nf1 = not f1\n",
         b"line 2",
     ),
-    (
-        "a needless zero",
-        b"f00 = true\n",
-        b"line 1",
-    ),
+    ("a needless zero", b"f00 = true\n", b"line 1"),
     (
         "a set in another order",
         b"f0 = true\nf1 = at 0 {2,0} f0 f0\n",
