@@ -2,17 +2,19 @@
 --
 -- PairLinesCanBeSaid     == lines of pairs are lines of answers
 -- ExplanationsAreRead    == an explanation is read as its formulas and its pairs
+-- ExplainedFormulasAreRead, CertifiedFormulasAreRead
+--                        == the formulas that are read of the text are its formulas
 -- BlockLinesCanBeSaid    == lines of blocks are lines of answers
 -- BlockLinesTellNoPair   == and none of them tells of a pair
 -- CertificatesAreRead    == a certificate is read as its formulas and its blocks
--- BlocksAreKept          == the blocks that are read have the formulas and the names that were given
+-- BlocksAreKept          == the blocks that are read have the formulas and names that were given
 -- StatsAreComments       == the line of statistics is a comment
 use Rattle.std.specs.Prelude.{◌≡◌, ◌<◌, ◌+◌, ◌^◌, ℕ, true, List, [], ◌∷◌, ◌++◌, map, length, IfSome, Option, Ok}
 use Rattle.std.specs.List.{All, list_all}
 use Rattle.functor_terms.specs.Words.{AreNames}
 use Rattle.formulas.specs.declared.formula.Formula.{Formula}
 use Rattle.formulas.specs.Formulas.{IsDag}
-use Rattle.formula_text.specs.Answers.{tells_no_pair, answers_of, certificate_of}
+use Rattle.formula_text.specs.Answers.{tells_no_pair, answers_of, certificate_of, dag_of}
 use Rattle.formula_text.specs.Reading.{blocks_of}
 use Rattle.formula_text.specs.Texts.{AreSayable, IsComment, text_of_answers}
 use Rattle.formula_text.specs.Laws.{AreWritable, all_answers}
@@ -43,6 +45,16 @@ ExplanationsAreRead =
     answers_of (text_of_answers dag (pair_lines names pairs verdicts) ++ comment)
     ≡ Ok (all_answers dag (pair_lines names pairs verdicts))
 
+-- the formulas that are read of such a text are its formulas
+abbrev pub ExplainedFormulasAreRead : Type 0
+ExplainedFormulasAreRead =
+    (dag : List Formula) (names : List (List ℕ)) (pairs : List (ℕ × ℕ))
+    (verdicts : List (Option ℕ)) (comment : List ℕ) →
+    IsDag dag → AreWritable dag → length dag < 2 ^ 32 →
+    AreNames names → All (IsPairOf names) pairs → All (IsVerdict (length dag)) verdicts →
+    IsComment comment →
+    dag_of (text_of_answers dag (pair_lines names pairs verdicts) ++ comment) ≡ Ok dag
+
 -- ---- certificates
 
 -- the states have names, and there are some
@@ -72,6 +84,16 @@ CertificatesAreRead =
     IsComment comment →
     certificate_of (text_of_answers dag (block_lines names formulas blocks) ++ comment)
     ≡ Ok (all_answers dag (block_lines names formulas blocks))
+
+-- the formulas that are read of such a text are its formulas
+abbrev pub CertifiedFormulasAreRead : Type 0
+CertifiedFormulasAreRead =
+    (dag : List Formula) (names : List (List ℕ)) (formulas : List ℕ) (blocks : List (List ℕ))
+    (comment : List ℕ) →
+    IsDag dag → AreWritable dag → length dag < 2 ^ 32 →
+    AreNames names → All (λ f. f < length dag) formulas → All (IsBlockOf names) blocks →
+    IsComment comment →
+    dag_of (text_of_answers dag (block_lines names formulas blocks) ++ comment) ≡ Ok dag
 
 -- blocks with their formulas and the names of their states, on lines from number n on
 abbrev pub numbered_blocks :

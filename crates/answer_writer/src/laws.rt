@@ -1,6 +1,6 @@
 //! Laws of these texts, each the contract of a function that does nothing.
-ghost use Rattle.answer_writer.specs.Laws.{PairLinesCanBeSaid, ExplanationsAreRead};
-ghost use Rattle.answer_writer.specs.Laws.{BlockLinesCanBeSaid, BlockLinesTellNoPair, CertificatesAreRead, BlocksAreKept};
+ghost use Rattle.answer_writer.specs.Laws.{PairLinesCanBeSaid, ExplanationsAreRead, ExplainedFormulasAreRead};
+ghost use Rattle.answer_writer.specs.Laws.{BlockLinesCanBeSaid, BlockLinesTellNoPair, CertificatesAreRead, CertifiedFormulasAreRead, BlocksAreKept};
 ghost use Rattle.answer_writer.specs.Laws.{StatsAreComments};
 
 use formula_text::{answer_texts_are_read, answers_have_formulas_and_blocks};
@@ -10,6 +10,7 @@ use formula_text::{answer_texts_are_read, answers_have_formulas_and_blocks};
 pub fn pair_lines_can_be_said()
     ensures lines { PairLinesCanBeSaid }
     ensures texts { ExplanationsAreRead }
+    ensures formulas { ExplainedFormulasAreRead }
 {
     answer_texts_are_read();
 }
@@ -21,6 +22,7 @@ pub fn block_lines_can_be_said()
     ensures lines { BlockLinesCanBeSaid }
     ensures no_pair { BlockLinesTellNoPair }
     ensures texts { CertificatesAreRead }
+    ensures formulas { CertifiedFormulasAreRead }
     ensures blocks { BlocksAreKept }
 {
     answer_texts_are_read();

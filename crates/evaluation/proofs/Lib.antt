@@ -4,3 +4,4 @@ pub mod JointLaws
 pub mod ValueTests
 pub mod RowLaws
 pub mod EdgeLaws
+pub mod BitLaws

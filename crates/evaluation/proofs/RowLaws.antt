@@ -242,14 +242,17 @@ module _
       (trits_of rows targets f) f x p) →
       KeepsRows last_uses (length rows) (rows ++ row ∷ []) new →
       (length new ≡ length rows + 1) × IsAt new
-  evaluating_step rows new row f at less is made keeps = (count, record {
-    laid_out = at.laid_out;
-    positive = at.positive;
-    ordered = at.ordered;
-    uses = at.uses;
-    within = omega (arith, count, less);
-    told = told_now;
-  })
+  evaluating_step rows new row f at less is made keeps = (
+    count,
+    record {
+      laid_out = at.laid_out;
+      positive = at.positive;
+      ordered = at.ordered;
+      uses = at.uses;
+      within = omega (arith, count, less);
+      told = told_now;
+    },
+  )
     where
       k : ℕ
       k = length rows

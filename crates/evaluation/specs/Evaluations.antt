@@ -16,8 +16,8 @@ pub record Evaluation : Type 0 where
 
 -- there is a row for each formula, and it has the formula's truth at each state
 pub record IsTableOf (content : Content) (dag : List Formula) (rows : List (List Bool)) : Type 0
-    where
-  pub one_each : length rows ≡ length dag
-  pub truths :
-      (f x : ℕ) → f < length dag → x < length content.values →
-      truth_in rows f x ≡ holds_at content dag f x
+  where
+    pub one_each : length rows ≡ length dag
+    pub truths :
+        (f x : ℕ) → f < length dag → x < length content.values →
+        truth_in rows f x ≡ holds_at content dag f x

@@ -1,4 +1,5 @@
 pub mod Truths
+pub mod Packed
 pub mod Uses
 pub mod Rows
 pub mod Evaluations

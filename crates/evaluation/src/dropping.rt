@@ -34,7 +34,9 @@ fn drop_cited(alloc: Global, last_uses: &[u32], k: u32, f: &Formula, rows: &mut 
             drop_row(alloc, last_uses, k, *j, rows);
         }
         Formula::At {
-            splitter, coarse, ..
+            splitter,
+            coarse,
+            ..
         } => {
             drop_row(alloc, last_uses, k, *splitter, rows);
             drop_row(alloc, last_uses, k, *coarse, rows);
@@ -42,15 +44,8 @@ fn drop_cited(alloc: Global, last_uses: &[u32], k: u32, f: &Formula, rows: &mut 
     }
 }
 
-
 /// Drops the rows that formula k and the one before it need, if no formula after k does.
-pub(crate) fn drop_unused(
-    alloc: Global,
-    last_uses: &[u32],
-    k: u32,
-    f: &Formula,
-    rows: &mut [Row],
-)
+pub(crate) fn drop_unused(alloc: Global, last_uses: &[u32], k: u32, f: &Formula, rows: &mut [Row])
     requires cites { CitesBelow k f.now }
     requires there { k < length rows.old }
     requires one_each { length rows.old ≤ length last_uses.now }

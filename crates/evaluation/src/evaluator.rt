@@ -34,9 +34,9 @@ impl<'a> Model for Evaluator<'a> {
     ghost coded = { Prim.hlevel (codes, e.the_row.coded) };
 
     ghost view = { λ s. record {
-        content = content_of s.coalgebra.now;
-        dag = s.dag.now;
-        next = length s.rows.items;
+      content = content_of s.coalgebra.now;
+      dag = s.dag.now;
+      next = length s.rows.items;
     } };
 
     ghost invariant = { λ s. IsEvaluating (content_of s.coalgebra.now) s.dag.now

@@ -20,7 +20,11 @@ fn smaller_sources(sources: &[u32], x: usize, known: usize) -> usize
 }
 
 /// Where the edges of each of so many structures begin, and where those of the last one end.
-pub(crate) fn first_edges(alloc: Global, count: usize, sources: &[u32]) -> Result<Vec<u32>, AllocError>
+pub(crate) fn first_edges(
+    alloc: Global,
+    count: usize,
+    sources: &[u32],
+) -> Result<Vec<u32>, AllocError>
     requires ascending { AllPairs (λ a b. a ≤ b) sources.now }
     requires few { count < 2 ^ 26 }
     requires few_edges { length sources.now < 2 ^ 26 }

@@ -7,6 +7,7 @@
 //! dropped when the last formula that cites it was evaluated. No clause says so.
 #![tactic(auto)]
 
+mod bits;
 mod dropping;
 mod edges;
 mod evaluator;

@@ -1,24 +1,29 @@
 //! Rows of truths.
 
+use crate::bits::{bit_of, push_bit};
 use std::alloc::{AllocError, Global};
 use std::marker::Model;
 
-/// Truths of one formula, in order.
+/// Truths of one formula, in order, a bit for each.
 #[derive(Drop)]
 pub(crate) struct Row {
-    items: Vec<bool>,
+    words: Vec<u64>,
+    len: usize,
 }
 
 impl Model for Row {
     ghost use Rattle.std.specs.Prelude.{List, Bool};
+    ghost use Rattle.evaluation.specs.Packed.{has_bit, first_truths, ArePacked};
 
     ghost Value = { List Bool };
 
-    ghost view = { λ r. r.items.items };
+    ghost view = { λ r. first_truths (has_bit r.words.items) r.len };
+
+    ghost invariant = { λ r. ArePacked r.words.items r.len };
 }
 
 impl Row {
-    ghost use Rattle.std.specs.Prelude.{◌≡◌, [], ◌∷◌, ◌++◌, IfOk};
+    ghost use Rattle.std.specs.Prelude.{◌≡◌, ◌+◌, ◌<◌, ◌^◌, [], ◌∷◌, ◌++◌, length, IfOk};
     ghost use Rattle.evaluation.specs.Truths.{truth_at};
 
     /// No truths.
@@ -26,7 +31,8 @@ impl Row {
         ensures none { result ≡ [] }
     {
         Row {
-            items: Vec::new(alloc),
+            words: Vec::new(alloc),
+            len: 0,
         }
     }
 
@@ -35,15 +41,18 @@ impl Row {
         ensures none { IfOk result (λ r. r ≡ []) }
     {
         Ok(Row {
-            items: Vec::with_capacity(alloc, room)?,
+            words: Vec::with_capacity(alloc, room / 64 + 1)?,
+            len: 0,
         })
     }
 
     /// Puts a truth last.
     pub(crate) fn push(&mut self, truth: bool) -> Result<(), AllocError>
+        requires room { length self.old + 1 < 2 ^ 64 }
         ensures last { IfOk result (λ _. self.new ≡ self.old ++ truth ∷ []) }
     {
-        self.items.push(truth)?;
+        push_bit(&mut self.words, self.len, truth)?;
+        self.len += 1;
         Ok(())
     }
 
@@ -51,9 +60,6 @@ impl Row {
     pub(crate) fn truth(&self, x: usize) -> bool
         ensures there { result ≡ truth_at self.now x }
     {
-        match self.items.get(x) {
-            Some(truth) => *truth,
-            None => false,
-        }
+        x < self.len && bit_of(self.words.as_slice(), x)
     }
 }

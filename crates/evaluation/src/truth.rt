@@ -57,7 +57,9 @@ fn trits_of(
 {
     match f {
         Formula::At {
-            splitter, coarse, ..
+            splitter,
+            coarse,
+            ..
         } => edge_trits(
             alloc,
             &rows[*splitter as usize],

@@ -23,7 +23,9 @@ fn note_uses(last_uses: &mut [u32], f: &Formula, k: u32)
             last_uses[*j as usize] = k;
         }
         Formula::At {
-            splitter, coarse, ..
+            splitter,
+            coarse,
+            ..
         } => {
             last_uses[*splitter as usize] = k;
             last_uses[*coarse as usize] = k;

@@ -15,6 +15,11 @@ returns-clause-texts c dag names formulas blocks comment is fine small are below
     fine small (blocks_can_be_said (length dag) names formulas blocks are below there)
     (blocks_tell_no_pair names formulas blocks) note
 
+pub returns-clause-formulas : goal.returns-clause-formulas
+returns-clause-formulas c dag names formulas blocks comment is fine small are below there note =
+    c.answer_texts_are_read.ensures.formulas dag (block_lines names formulas blocks) comment is
+    fine small (blocks_can_be_said (length dag) names formulas blocks are below there) note
+
 pub returns-clause-blocks : goal.returns-clause-blocks
 returns-clause-blocks c dag names formulas blocks =
     c.answers_have_formulas_and_blocks.ensures.blocks dag (block_lines names formulas blocks)

@@ -10,3 +10,8 @@ pub returns-clause-texts : goal.returns-clause-texts
 returns-clause-texts c dag names pairs verdicts comment is fine small are there below note =
     c.answer_texts_are_read.ensures.answers dag (pair_lines names pairs verdicts) comment is fine
     small (pairs_can_be_said (length dag) names pairs verdicts are there below) note
+
+pub returns-clause-formulas : goal.returns-clause-formulas
+returns-clause-formulas c dag names pairs verdicts comment is fine small are there below note =
+    c.answer_texts_are_read.ensures.formulas dag (pair_lines names pairs verdicts) comment is fine
+    small (pairs_can_be_said (length dag) names pairs verdicts are there below) note

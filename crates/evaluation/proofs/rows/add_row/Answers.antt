@@ -38,8 +38,12 @@ returns c =
     s.targets.items last_uses rows dropped row f c.requires.evaluating c.requires.left there made
     keeps in
     let back = written_back dropped _ c.push.new.self.len
-    (omega (arith, c.push.new.self.ok.0, c.drop_unused.auto.rows,
-    ap length c.as_mut_slice.ensures.value)) in
+    (omega (
+      arith,
+      c.push.new.self.ok.0,
+      c.drop_unused.auto.rows,
+      ap length c.as_mut_slice.ensures.value,
+    )) in
     record {
       added =
           subst (λ (l : List (List Bool)). (length l ≡ length rows + 1)

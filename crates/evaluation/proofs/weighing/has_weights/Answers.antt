@@ -13,12 +13,12 @@ returns-else-has_weight-2 c m =
     elim c.if-has_weight.branch [
       | then-has_weight w ↦
           fails ∙ sym (other_value made c.args.value.now (λ e.
-            let one = ap (λ (v : Three). (sums_of v).at_one) (e ∙ c.in-Triple.is)
+          let one = ap (λ (v : Three). (sums_of v).at_one) (e ∙ c.in-Triple.is)
           ∙ sym (ap (λ s. s.at_one) c.get-sums.ensures) in
           true≢false (sym (w.has_weight-then-has_weight.ensures.1 one) ∙ sym w.value-is ∙ fails)))
       | else-has_weight w ↦
           fails ∙ sym (other_value made c.args.value.now (λ e.
-            let two = ap (λ (v : Three). (sums_of v).at_two) (e ∙ c.in-Triple.is)
+          let two = ap (λ (v : Three). (sums_of v).at_two) (e ∙ c.in-Triple.is)
           ∙ sym (ap (λ s. s.at_two) c.get-sums.ensures) in
           true≢false (sym (c.has_weight.ensures.1 two) ∙ sym w.value-is ∙ fails)))
     ]
