@@ -3,6 +3,7 @@ mod Projections
 mod Told
 mod Making
 mod Prefixes
+mod Finding
 mod BlockLaws
 mod NameLaws
 mod MinimalLaws

@@ -10,11 +10,10 @@ use Rattle.copar_run.specs.Minimal.{IsMinimised, IsMinimal}
 use Rattle.copar_run.proofs.MinimalLaws.{MinimalityLaws, is_minimal}
 use Rattle.copar_run.proofs.outputs.minimised.Goals as goal
 
-pub returns-clause-prints : goal.returns-clause-prints
-returns-clause-prints g c =
+pub returns : goal.returns
+returns c =
     let source = c.args.c.now in
     let d = c.in_ok-d.d in
-    let (rise, risen, counted) = c.in_ok-labels.ensures.counted in
     let laws : MinimalityLaws = record {
       minimal = c.quotients_are_minimal.ensures;
       own = c.minimal_systems_are_their_own_quotients.ensures;
@@ -37,10 +36,7 @@ returns-clause-prints g c =
       in_bounds = d.in_bounds;
     } in
     IfOk-weaker c.quotient_text.result (λ text. text.items ≡ canonical (content_of d)) _
-    (λ output text. (
-      rise,
-      risen,
-      counted,
+    (λ output text.
       (let made : IsMinimised (content_of source) output.items = record {
         labels = c.in_ok-labels.labels.items;
         least = content_of d;
@@ -59,6 +55,5 @@ returns-clause-prints g c =
             in_range = subst (λ n. IsTrue (list_all (states_below n) source.values.items))
                 (sym source.one_each) source.in_range;
           })
-          formed laws),
-    ))
+          formed laws))
     c.quotient_text.ensures.canonical
