@@ -50,8 +50,8 @@ truths_of c bytes = holds_at c (formulas_of (answers_read (certificate_of bytes)
 abbrev pub lines_of_text : Content → List ℕ → List BlockLine
 lines_of_text c bytes = block_lines c (answers_read (certificate_of bytes))
 
--- the verdict on a text without a bad line is a function of the coalgebra, of its block lines by the
--- numbers of their states and formulas, and of the truths of the formulas that they cite
+-- the verdict on a text without a bad line is a function of the coalgebra, of its block lines by
+-- the numbers of their states and formulas, and of the truths of the formulas that they cite
 abbrev pub VerdictsLookAtTruthsAlone : Type 0
 VerdictsLookAtTruthsAlone =
     (c : Content) (a b : List ℕ) → bad_answer_line c a ≡ None → bad_answer_line c b ≡ None →

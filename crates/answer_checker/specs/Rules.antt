@@ -77,8 +77,8 @@ module _ (told : ℕ → ℕ → Bool) where
   abbrev pub HoldAllExactly : ℕ → List BlockLine → Type 0
   HoldAllExactly n lines = HoldExactlyBefore n lines (length lines)
 
-  -- line k is the first whose formula does not hold at its states alone, and x is the first state at
-  -- which it is wrong
+  -- line k is the first whose formula does not hold at its states alone, and x is the first state
+  -- at which it is wrong
   pub record IsFirstWrongLine (n : ℕ) (lines : List BlockLine) (k : ℕ) (line : BlockLine) (x : ℕ) :
       Type 0 where
     pub there : slice_get lines k ≡ Some line
@@ -92,8 +92,8 @@ module _ (told : ℕ → ℕ → Bool) where
   IsFirstWrong n lines f x =
       (k : ℕ) × (line : BlockLine) × (line.formula ≡ f) × IsFirstWrongLine n lines k line x
 
--- each state stands once, each is like the first of its block, and the formula of each line holds at
--- its states alone
+-- each state stands once, each is like the first of its block, and the formula of each line holds
+-- at its states alone
 pub record PassesRules
     (t : Nodes) (values : List Value) (told : ℕ → ℕ → Bool) (lines : List BlockLine) : Type 0 where
   pub once : StandOnce (length values) lines

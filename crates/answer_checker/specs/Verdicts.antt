@@ -5,7 +5,7 @@
 -- IsReason .. r               == r is what the first rule that fails tells
 -- IsJudged .. v               == v is the verdict of the rules on block lines
 -- answers_read read           == the answers, where all lines are good
--- IsVerdict c bytes v         == v is the verdict on a text: its bad line, and else that of the rules
+-- IsVerdict c bytes v         == v is the verdict on a text: its bad line, or that of the rules
 -- IsRightIfYes c bytes v      == if it is yes, the block lines of the text are a right answer
 -- TellsBadFormula t bytes f   == a bad line of a file whose formulas are to be evaluated is told
 use Rattle.std.specs.Prelude.{◌≡◌, ◌<◌, ◌^◌, ℕ, Bool, List, [], map, length, Option, Some, None, Result, Ok, Err}

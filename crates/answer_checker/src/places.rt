@@ -33,8 +33,8 @@ pub(crate) fn first_not_once(places: &[Place]) -> Option<Reason>
     requires few { length places.now < 2 ^ 32 }
     ensures once { IsNone result → (lines : List BlockLine) → ArePlaces lines places.now →
         StandOnce (length places.now) lines }
-    ensures reason { IfSome result (λ reason. (lines : List BlockLine) → ArePlaces lines places.now →
-        IsNotOnce (length places.now) lines reason) }
+    ensures reason { IfSome result (λ reason. (lines : List BlockLine) →
+        ArePlaces lines places.now → IsNotOnce (length places.now) lines reason) }
 {
     let mut i = 0;
     for place in places {
