@@ -1,7 +1,8 @@
 //! The formulas of an answer.
-ghost use Rattle.std.specs.Prelude.{◌≡◌, ◌≤◌, ◌^◌, length, Ok, IfOk, IfErr};
+ghost use Rattle.std.specs.Prelude.{◌≡◌, ◌≤◌, ◌^◌, length, None, Ok, IfOk, IfErr};
 ghost use Rattle.satisfaction.specs.Modalities.{AllFit};
 ghost use Rattle.formula_text.specs.Answers.{dag_of};
+ghost use Rattle.answer_checker.specs.BadLines.{bad_formula_line};
 ghost use Rattle.answer_checker.specs.Verdicts.{TellsBadFormula};
 
 use crate::bad_lines::least_misfit;
@@ -17,6 +18,7 @@ pub fn read_formulas(alloc: Global, term: &Term, bytes: &[u8]) -> Result<Dag, An
     requires { length bytes.now ≤ 2 ^ 26 }
     ensures good { IfOk result (λ dag. dag_of bytes.now ≡ Ok dag) }
     ensures fitting { IfOk result (AllFit term.now) }
+    ensures clear { IfOk result (λ _. bad_formula_line term.now bytes.now ≡ None) }
     ensures bad { IfErr result (TellsBadFormula term.now bytes.now) }
 {
     match read_answers(alloc, bytes) {

@@ -4,6 +4,8 @@ mod Told
 mod Making
 mod Prefixes
 mod Finding
+mod AnswerLaws
+mod VerdictLaws
 mod BlockLaws
 mod NameLaws
 mod MinimalLaws

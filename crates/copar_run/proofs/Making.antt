@@ -10,8 +10,8 @@ use Rattle.copar_run.specs.declared.status.Status.TheVariants as status
 use Rattle.copar_run.specs.declared.status.Status.TheVariants.{Done, Grammar, TypeFault, WeightBound, SumFault, ReadFault, WriteFault, NoMemory, TooLong}
 use Rattle.structure_parser.specs.Reads.{Reads, Fault, IsFault, most_bytes}
 use Rattle.copar_run.specs.Reading.{Tells, status_of}
-use Rattle.copar_run.specs.Outputs.{MayEnd}
-use Rattle.copar_run.specs.Outcome.{Counts, Files, Outside, NoReadFailed, NoWriteFailed, Stage, Form, stages_of, Holds, Denotes, IsBadLine, Cause, Clear, FailedRead, Stops, Passes, Reached, PassesAll, Answers, Ends, Ran, met}
+use Rattle.copar_run.specs.Outputs.{Subject, MayEnd, Prints}
+use Rattle.copar_run.specs.Outcome.{Counts, Files, Outside, NoReadFailed, NoWriteFailed, Stage, Form, stages_of, Holds, Denotes, IsBadLine, Cause, Clear, FailedRead, Stops, Passes, Reached, PassesAll, Answers, IsOfOne, IsOfTwo, IsSubject, Ends, Ran, met}
 use Rattle.copar_run.specs.Named.{AreNamed}
 use Rattle.copar_run.specs.Lines.{line_of, line_at, told_line, stranger_line, IsLine}
 use Rattle.copar_run.specs.Standing.{IsMade, IsHalted, IsStrange}
@@ -176,6 +176,26 @@ module _ (o : Outside) where
         (λ files. Clear files (Stage.FindStates file first words)) o.files
         (λ files e. (c, e, named)) there
 
+    -- or memory was wanting
+    pub halt-at-finding : (first : ℕ) (words : List (List ℕ)) (stages : List Stage) (s : Status)
+        (word : List ℕ) → (s ≡ NoMemory) ⊎ IsStrange (words_of c) words first s word
+        → NoReadFailed o
+        → IsHalted (Stage.FindStates file first words ∷ stages) o s (told_line s word)
+    halt-at-finding first words stages s word (inl wanting) read =
+        halt-wanting (Stage.FindStates file first words ∷ stages) s word wanting read
+    halt-at-finding first words stages s word (inr strange) read =
+        halt-finding first words stages s word strange read
+
+    -- the coalgebra is what a request on this file is about
+    pub about-one : (request : Request)
+        → ((files : Files) → IsOfOne files file (Subject.One c)
+        → IsSubject files request (Subject.One c))
+        → IfSome o.files (λ files. IsSubject files request (Subject.One c))
+    about-one request is =
+        if-some (λ files. Denotes files file c)
+        (λ files. IsSubject files request (Subject.One c)) o.files
+        (λ files e. is files (c, refl, e)) there
+
     module _ (second bytes : List ℕ) (holds : IfSome o.files (λ files. Holds files second bytes))
         where
       -- a line of the second file is not of its form
@@ -200,6 +220,37 @@ module _ (o : Outside) where
           if-both (λ files. Denotes files file c) (λ files. Holds files second bytes)
           (λ files. Clear files (Stage.JudgeText file second form)) o.files
           (λ files e h. (c, e, (bytes, h, good))) there holds
+
+      -- it and the second file are what a request on both is about
+      pub about-two : (request : Request)
+          → ((files : Files) → IsOfTwo files file second (Subject.WithText c bytes)
+          → IsSubject files request (Subject.WithText c bytes))
+          → IfSome o.files (λ files. IsSubject files request (Subject.WithText c bytes))
+      about-two request is =
+          if-both (λ files. Denotes files file c) (λ files. Holds files second bytes)
+          (λ files. IsSubject files request (Subject.WithText c bytes)) o.files
+          (λ files e h. is files (c, bytes, refl, e, h)) there holds
+
+  -- the output of a request that is about this subject is made
+  pub make : (request : Request) (stages : List Stage) (subject : Subject) (rise : ℕ)
+      (ending : Status) (output : List ℕ) → PassesAll o stages
+      → IfSome o.files (λ files. IsSubject files request subject)
+      → MayEnd request ending → Prints request subject rise ending output → NoReadFailed o
+      → (s : Status) (text : List ℕ) → s ≡ ending → text ≡ output
+      → IsMade request stages o rise s text
+  make request stages subject rise ending output passes about may prints read s text same is =
+      subst (λ z. IsMade request stages o rise z text) (sym same)
+      (subst (λ z. IsMade request stages o rise ending z) (sym is) (record {
+        passes = passes;
+        answers = (
+          may,
+          if-some (λ files. IsSubject files request subject)
+              (λ files. (about : Subject) × IsSubject files request about
+              × Prints request about rise ending output) o.files
+              (λ files e. (subject, e, prints)) about,
+        );
+        read = read;
+      }))
 
 -- no read fails where no count changed
 module _ (files : Option Files) (a b now : List ℕ → ℕ) (same : (name : List ℕ) → b name ≡ a name)

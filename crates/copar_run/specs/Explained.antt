@@ -2,7 +2,7 @@
 --
 -- pairs_of numbers              == the numbers two by two
 -- IsExplained c words output    == the output explains the pairs of states that the words name
-use Rattle.std.specs.Prelude.{◌≡◌, ◌×◌, ℕ, List, [], ◌∷◌, ◌++◌, Option, Ok}
+use Rattle.std.specs.Prelude.{◌≡◌, ℕ, List, [], ◌∷◌, ◌++◌, Option, Ok}
 use Rattle.typing.specs.Contents.{Content, words_of}
 use Rattle.formulas.specs.declared.formula.Formula.{Formula}
 use Rattle.formula_text.specs.Answers.{answers_of, dag_of}

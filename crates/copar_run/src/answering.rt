@@ -29,7 +29,7 @@ pub(crate) struct Made {
 
 /// An output after which a run is done.
 fn done(text: Vec<u8>) -> Made
-    ensures same { result.text.items ≡ text.entry.items }
+    ensures same { result.text.items ≡ text.items }
     ensures done { result.status ≡ Status.Done }
 {
     Made {
@@ -72,9 +72,12 @@ pub(crate) fn answer_of<'w, F: Folder, L: Ledger>(
             states,
             stats,
         } => {
-            let numbers = find_states(alloc, &c.names, 0, states.as_slice())?;
-            let numbers = numbers.as_slice();
-            Ok(done(explained_output(alloc, c, numbers, *stats, steps)?))
+            let numbers = match find_states(alloc, &c.names, 0, states.as_slice()) {
+                Ok(numbers) => numbers,
+                Err(ended) => return Err(ended),
+            };
+            let text = explained_output(alloc, c, numbers.as_slice(), *stats, steps)?;
+            Ok(done(text))
         }
         Request::Certify { file: _, stats } => {
             Ok(done(certified_output(alloc, c, *stats, steps)?))
@@ -112,7 +115,10 @@ fn checked<'w, F: Folder>(
     ensures no_count_falls { (other : List ℕ) →
         F.faults folder.old other ≤ F.faults folder.new other }
 {
-    let numbers = find_states(alloc, &c.names, 1, states)?;
+    let numbers = match find_states(alloc, &c.names, 1, states) {
+        Ok(numbers) => numbers,
+        Err(ended) => return Err(ended),
+    };
     let bytes = match file_bytes(alloc, folder, formulas) {
         Ok(bytes) => bytes,
         Err(status) => return Err(Ended::by(status)),

@@ -1,5 +1,5 @@
 //! The texts that requests print for a coalgebra, from the refinement of its sorted states.
-ghost use Rattle.std.specs.Prelude.{◌≡◌, ◌+◌, ◌≤◌, ◌<◌, ◌^◌, ◌++◌, ℕ, length, IfOk};
+ghost use Rattle.std.specs.Prelude.{◌≡◌, ◌+◌, ◌≤◌, ◌<◌, ◌^◌, ◌++◌, ℕ, List, length, IfOk};
 ghost use Rattle.std.specs.List.{All};
 ghost use Rattle.typing.specs.Contents.{content_of};
 ghost use Rattle.typing.specs.Stable.{IsStable};
@@ -112,7 +112,7 @@ fn with_stats(
     found: &Refinement,
 ) -> Result<Vec<u8>, AllocError>
     requires found { IsFound (content_of c.now) found.now }
-    ensures { IfOk result (λ output. output.items ≡ text.entry.items
+    ensures { IfOk result (λ output. output.items ≡ text.items
         ++ stats_part stats (content_of c.now) found.now.refined.labels) }
 {
     if stats {
@@ -198,7 +198,8 @@ fn explained(
     let pairs = pairs_of(alloc, numbers)?;
     let told = state_formulas(alloc, c, &found.system, &found.refined)?;
     let explanation = explain_pairs(alloc, c, &told, pairs.as_slice())?;
-    let _names = c.names.len();
+    // names and formulas are what they are
+    let (_names, _formulas) = (c.names.len(), explanation.dag.len());
     explanation_text(
         alloc,
         &c.names,
@@ -216,7 +217,8 @@ fn certified(alloc: Global, c: &Coalgebra, found: &Refinement) -> Result<Vec<u8>
     block_lines_can_be_said();
     let told = state_formulas(alloc, c, &found.system, &found.refined)?;
     let certificate = certify_classes(alloc, c, &told)?;
-    let _names = c.names.len();
+    // names and formulas are what they are
+    let (_names, _formulas) = (c.names.len(), certificate.dag.len());
     certificate_text(
         alloc,
         &c.names,

@@ -32,3 +32,13 @@ returns-in-Some-clause-bad c =
     ∙ ap (λ fs. least_of_formulas t fs (lines_of_formulas answers)) (sym is.formulas)
     ∙ ap (least_of_formulas t c.in-Ok.text.dag) (sym (c.as_slice.ensures.value ∙ is.lines))
     ∙ sym c.in-Some.ensures
+
+pub returns-in-None-clause-clear : goal.returns-in-None-clause-clear
+returns-in-None-clause-clear c =
+    let t = c.args.term.now in
+    let (answers, read, is) =
+    text_given c.in-Ok.text (answers_of c.args.bytes.now) c.in-Ok.ensures.good in
+    ap (bad_line (is_misfit t)) read ∙ misfit_lines t answers
+    ∙ ap (λ fs. least_of_formulas t fs (lines_of_formulas answers)) (sym is.formulas)
+    ∙ ap (least_of_formulas t c.in-Ok.text.dag) (sym (c.as_slice.ensures.value ∙ is.lines))
+    ∙ sym c.in-None.ensures
