@@ -102,7 +102,8 @@ fn explain_of<'a>(file: &'a str, rest: Vec<&'a str>, stats: bool) -> Option<Requ
 
 /// Formulas at states: a further file, and one state or more.
 fn check_of<'a>(file: &'a str, rest: Vec<&'a str>) -> Option<Request<'a>>
-    ensures { option_map denoted result ≡ the_check_of file.now (map (λ word. word.now) rest.entry.items) }
+    ensures { option_map denoted result
+        ≡ the_check_of file.now (map (λ word. word.now) rest.entry.items) }
 {
     if rest.len() < 2 {
         return None;

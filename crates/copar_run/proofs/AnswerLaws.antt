@@ -68,6 +68,7 @@ verdicts-there c dag pairs verdicts all =
         → IfSome verdict (λ f. f < length dag)
     one x y None is = tt
     one x y (Some k) is = is.1
+
     each : (ps : List (ℕ × ℕ)) (vs : List (Option ℕ))
         → AllZip (λ pair verdict. IsVerdict c dag pair.0 pair.1 verdict) ps vs
         → AllByRecursion (λ verdict. IfSome verdict (λ f. f < length dag)) vs

@@ -56,9 +56,9 @@ strange-line file first words s word strange =
     subst (λ z. told_line z word ≡ line_at (Stage.FindStates file first words) z)
     (sym strange.told)
     (ap stranger_line (sym (
-      ap (λ k. unwrap_or (slice_get words k) []) (ahead first strange.place)
-      ∙ ap (λ o. unwrap_or o []) strange.stranger.there
-      ∙ strange.same
+    ap (λ k. unwrap_or (slice_get words k) []) (ahead first strange.place)
+    ∙ ap (λ o. unwrap_or o []) strange.stranger.there
+    ∙ strange.same
     )))
   where
     ahead : (a b : ℕ) → (a + b) - a ≡ b
@@ -197,39 +197,39 @@ module _ (o : Outside) where
         (λ files e. is files (c, refl, e)) there
 
     module _ (second bytes : List ℕ) (holds : IfSome o.files (λ files. Holds files second bytes))
-        where
-      -- a line of the second file is not of its form
-      pub halt-text : (form : Form) (stages : List Stage) (line : ℕ) (word : List ℕ)
-          → IsBadLine form c bytes line → NoReadFailed o
-          → IsHalted (Stage.JudgeText file second form ∷ stages) o (status.AnswerText line)
-          (told_line (status.AnswerText line) word)
-      halt-text form stages line word bad read =
-          IsHalted.AtStage (Stage.JudgeText file second form) (inl refl)
-          (inr (
-            (line, refl),
+      where
+        -- a line of the second file is not of its form
+        pub halt-text : (form : Form) (stages : List Stage) (line : ℕ) (word : List ℕ)
+            → IsBadLine form c bytes line → NoReadFailed o
+            → IsHalted (Stage.JudgeText file second form ∷ stages) o (status.AnswerText line)
+            (told_line (status.AnswerText line) word)
+        halt-text form stages line word bad read =
+            IsHalted.AtStage (Stage.JudgeText file second form) (inl refl)
+            (inr (
+              (line, refl),
+              if-both (λ files. Denotes files file c) (λ files. Holds files second bytes)
+                  (λ files. Cause files (Stage.JudgeText file second form) (status.AnswerText line))
+                  o.files (λ files e h. (c, e, (bytes, h, (line, refl, bad)))) there holds,
+            ))
+            refl (inr read)
+
+        -- or each is
+        pub judged : (form : Form) → ((line : ℕ) → IsBadLine form c bytes line → ⊥)
+            → Passes o (Stage.JudgeText file second form)
+        judged form good =
             if-both (λ files. Denotes files file c) (λ files. Holds files second bytes)
-                (λ files. Cause files (Stage.JudgeText file second form) (status.AnswerText line))
-                o.files (λ files e h. (c, e, (bytes, h, (line, refl, bad)))) there holds,
-          ))
-          refl (inr read)
+            (λ files. Clear files (Stage.JudgeText file second form)) o.files
+            (λ files e h. (c, e, (bytes, h, good))) there holds
 
-      -- or each is
-      pub judged : (form : Form) → ((line : ℕ) → IsBadLine form c bytes line → ⊥)
-          → Passes o (Stage.JudgeText file second form)
-      judged form good =
-          if-both (λ files. Denotes files file c) (λ files. Holds files second bytes)
-          (λ files. Clear files (Stage.JudgeText file second form)) o.files
-          (λ files e h. (c, e, (bytes, h, good))) there holds
-
-      -- it and the second file are what a request on both is about
-      pub about-two : (request : Request)
-          → ((files : Files) → IsOfTwo files file second (Subject.WithText c bytes)
-          → IsSubject files request (Subject.WithText c bytes))
-          → IfSome o.files (λ files. IsSubject files request (Subject.WithText c bytes))
-      about-two request is =
-          if-both (λ files. Denotes files file c) (λ files. Holds files second bytes)
-          (λ files. IsSubject files request (Subject.WithText c bytes)) o.files
-          (λ files e h. is files (c, bytes, refl, e, h)) there holds
+        -- it and the second file are what a request on both is about
+        pub about-two : (request : Request)
+            → ((files : Files) → IsOfTwo files file second (Subject.WithText c bytes)
+            → IsSubject files request (Subject.WithText c bytes))
+            → IfSome o.files (λ files. IsSubject files request (Subject.WithText c bytes))
+        about-two request is =
+            if-both (λ files. Denotes files file c) (λ files. Holds files second bytes)
+            (λ files. IsSubject files request (Subject.WithText c bytes)) o.files
+            (λ files e h. is files (c, bytes, refl, e, h)) there holds
 
   -- the output of a request that is about this subject is made
   pub make : (request : Request) (stages : List Stage) (subject : Subject) (rise : ℕ)
@@ -254,54 +254,54 @@ module _ (o : Outside) where
 
 -- no read fails where no count changed
 module _ (files : Option Files) (a b now : List ℕ → ℕ) (same : (name : List ℕ) → b name ≡ a name)
-    where
-  -- the stages that are reached do not depend on the counts before
-  reached-from : (stages : List Stage) (stage : Stage) → Reached (met files b now) stages stage
-      → Reached (met files a now) stages stage
-  reached-from [] stage r = r
-  reached-from (first ∷ stages) stage (inl e) = inl e
-  reached-from (first ∷ stages) stage (inr r) = inr (r.0, reached-from stages stage r.1)
+  where
+    -- the stages that are reached do not depend on the counts before
+    reached-from : (stages : List Stage) (stage : Stage) → Reached (met files b now) stages stage
+        → Reached (met files a now) stages stage
+    reached-from [] stage r = r
+    reached-from (first ∷ stages) stage (inl e) = inl e
+    reached-from (first ∷ stages) stage (inr r) = inr (r.0, reached-from stages stage r.1)
 
-  failed-from : (stage : Stage) → FailedRead (met files b now) stage
-      → FailedRead (met files a now) stage
-  failed-from (Stage.GetFile name) failed = subst (λ n. Rose n (now name)) (same name) failed
-  failed-from (Stage.ReadFile name) failed = failed
-  failed-from (Stage.FindStates file first words) failed = failed
-  failed-from (Stage.JudgeText file second form) failed = failed
+    failed-from : (stage : Stage) → FailedRead (met files b now) stage
+        → FailedRead (met files a now) stage
+    failed-from (Stage.GetFile name) failed = subst (λ n. Rose n (now name)) (same name) failed
+    failed-from (Stage.ReadFile name) failed = failed
+    failed-from (Stage.FindStates file first words) failed = failed
+    failed-from (Stage.JudgeText file second form) failed = failed
 
-  stops-from : (stage : Stage) (s : Status) → Stops (met files b now) stage s
-      → Stops (met files a now) stage s
-  stops-from stage s (inl failed) = inl (failed.0, failed-from stage failed.1)
-  stops-from stage s (inr cause) = inr cause
+    stops-from : (stage : Stage) (s : Status) → Stops (met files b now) stage s
+        → Stops (met files a now) stage s
+    stops-from stage s (inl failed) = inl (failed.0, failed-from stage failed.1)
+    stops-from stage s (inr cause) = inr cause
 
-  unfailed-from : NoReadFailed (met files b now) → NoReadFailed (met files a now)
-  unfailed-from read name = read name ∙ same name
+    unfailed-from : NoReadFailed (met files b now) → NoReadFailed (met files a now)
+    unfailed-from read name = read name ∙ same name
 
-  passes-from : (stages : List Stage) → PassesAll (met files b now) stages
-      → PassesAll (met files a now) stages
-  passes-from [] p = p
-  passes-from (first ∷ stages) p = (p.0, passes-from stages p.1)
+    passes-from : (stages : List Stage) → PassesAll (met files b now) stages
+        → PassesAll (met files a now) stages
+    passes-from [] p = p
+    passes-from (first ∷ stages) p = (p.0, passes-from stages p.1)
 
-  -- what stops from then on stops from the start
-  pub halted-from : (stages : List Stage) (s : Status) (line : List ℕ)
-      → IsHalted stages (met files b now) s line → IsHalted stages (met files a now) s line
-  halted-from stages s line (IsHalted.ForMemory wanting is read) =
-      IsHalted.ForMemory wanting is (unfailed-from read)
-  halted-from stages s line (IsHalted.AtStage stage r x is (inl failed)) =
-      IsHalted.AtStage stage (reached-from stages stage r) (stops-from stage s x) is (inl failed)
-  halted-from stages s line (IsHalted.AtStage stage r x is (inr read)) =
-      IsHalted.AtStage stage (reached-from stages stage r) (stops-from stage s x) is
-      (inr (unfailed-from read))
+    -- what stops from then on stops from the start
+    pub halted-from : (stages : List Stage) (s : Status) (line : List ℕ)
+        → IsHalted stages (met files b now) s line → IsHalted stages (met files a now) s line
+    halted-from stages s line (IsHalted.ForMemory wanting is read) =
+        IsHalted.ForMemory wanting is (unfailed-from read)
+    halted-from stages s line (IsHalted.AtStage stage r x is (inl failed)) =
+        IsHalted.AtStage stage (reached-from stages stage r) (stops-from stage s x) is (inl failed)
+    halted-from stages s line (IsHalted.AtStage stage r x is (inr read)) =
+        IsHalted.AtStage stage (reached-from stages stage r) (stops-from stage s x) is
+        (inr (unfailed-from read))
 
-  -- and what is made is made
-  pub made-from : (stages : List Stage) (request : Request) (rise : ℕ) (ending : Status)
-      (whole : List ℕ) → IsMade request stages (met files b now) rise ending whole
-      → IsMade request stages (met files a now) rise ending whole
-  made-from stages request rise ending whole made = record {
-    passes = passes-from stages made.passes;
-    answers = made.answers;
-    read = unfailed-from made.read;
-  }
+    -- and what is made is made
+    pub made-from : (stages : List Stage) (request : Request) (rise : ℕ) (ending : Status)
+        (whole : List ℕ) → IsMade request stages (met files b now) rise ending whole
+        → IsMade request stages (met files a now) rise ending whole
+    made-from stages request rise ending whole made = record {
+      passes = passes-from stages made.passes;
+      answers = made.answers;
+      read = unfailed-from made.read;
+    }
 
 -- a count that did not fall rose by some number
 pub rise-of : (before after : ℕ) → before ≤ after → (rise : ℕ) × (after ≡ before + rise)

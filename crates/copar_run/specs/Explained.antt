@@ -18,9 +18,9 @@ pairs_of (x ∷ y ∷ numbers) = (x, y) ∷ pairs_of numbers
 pairs_of _ = []
 
 -- The output has formulas, and then a line for each pair of states that the words name: that they
--- are equivalent, where they are, or a formula that holds at the first and fails at the second. Each
--- formula is cited on the way from a pair. The output is read as these formulas and pairs, also
--- where a line of notes stands behind it.
+-- are equivalent, where they are, or a formula that holds at the first and fails at the second.
+-- Each formula is cited on the way from a pair. The output is read as these formulas and pairs,
+-- also where a line of notes stands behind it.
 pub record IsExplained (c : Content) (words : List (List ℕ)) (output : List ℕ) : Type 0 where
   pub numbers : List ℕ
   pub dag : List Formula

@@ -46,8 +46,8 @@ AreReasonStates n (Unstable x y) = (x < n) × (y < n)
 AreReasonStates n (Wrong f x) = x < n
 
 -- The output tells the verdict on the bytes, and this status comes with it: Done where the answer
--- is right by the rules, and No where it is not. If the status is Done, the block lines of the bytes
--- have each state exactly once, and two states together exactly if they are equivalent.
+-- is right by the rules, and No where it is not. If the status is Done, the block lines of the
+-- bytes have each state exactly once, and two states together exactly if they are equivalent.
 pub record IsVerified (c : Content) (bytes : List ℕ) (s : Status) (output : List ℕ) : Type 0 where
   pub verdict : Verdict
   pub given : IsVerdict c bytes verdict

@@ -150,18 +150,22 @@ pub fn answer<'w, F: Folder, O: Sink, L: Ledger>(
         F.files folder.old ≡ Some files → Asks words.now request →
         Reached (met (F.files folder.old) (F.faults folder.old) (F.faults folder.new))
         (stages_of request) stage → Cause files stage fault →
-        (result.status ≡ fault) ⊎ ((result.status ≡ Status.ReadFault) ⊎ (result.status ≡ Status.NoMemory)) }
+        (result.status ≡ fault)
+        ⊎ ((result.status ≡ Status.ReadFault) ⊎ (result.status ≡ Status.NoMemory)) }
     ensures read_fault { (request : Wanted) → Asks words.now request →
         result.status ≡ Status.ReadFault → (name : List ℕ) × IsRead (met (F.files folder.old)
         (F.faults folder.old) (F.faults folder.new)) request name
         × Rose (F.faults folder.old name) (F.faults folder.new name) }
-    ensures write_fault { result.status ≡ Status.WriteFault → Rose (O.faults out.old) (O.faults out.new) }
+    ensures write_fault { result.status ≡ Status.WriteFault →
+        Rose (O.faults out.old) (O.faults out.new) }
     // a failed read or write is not passed over
     ensures reads_are_told { result.status ≢ Status.ReadFault →
         (name : List ℕ) → F.faults folder.new name ≡ F.faults folder.old name }
-    ensures writes_are_told { result.status ≢ Status.WriteFault → O.faults out.new ≡ O.faults out.old }
+    ensures writes_are_told { result.status ≢ Status.WriteFault →
+        O.faults out.new ≡ O.faults out.old }
     // a refused run makes no call on `out`
-    ensures untouched { is_end result.status ≡ false → result.status ≢ Status.WriteFault → out.new ≡ out.old }
+    ensures untouched { is_end result.status ≡ false → result.status ≢ Status.WriteFault →
+        out.new ≡ out.old }
     // Where nothing stops the request and nothing fails, only memory can be wanting, or `out` got
     // what the request prints for the coalgebra that its file denotes. For `blocks`, two states
     // share a printed block exactly if they are behaviourally equivalent; for `minimise`, it is the
@@ -176,7 +180,8 @@ pub fn answer<'w, F: Folder, O: Sink, L: Ledger>(
         (F.faults folder.new)) request name →
         IsQuiet (F.faults folder.old name) (F.faults folder.new name)) →
         IsQuiet (O.faults out.old) (O.faults out.new) →
-        (result.status ≡ Status.NoMemory) ⊎ (MayEnd request result.status × ((rise : ℕ) × (output : List ℕ)
+        (result.status ≡ Status.NoMemory)
+        ⊎ (MayEnd request result.status × ((rise : ℕ) × (output : List ℕ)
         × (steps.new ≡ steps.old + rise) × Prints request subject rise result.status output
         × (O.taken out.new ≡ append_known (O.taken out.old) output))) }
     // the line that tells why there is no whole output

@@ -28,6 +28,15 @@ const LINES: &[&[&str]] = &[
     &["minimise", "cancel.copar"],
     &["blocks", "segala.copar"],
     &["minimise", "segala.copar"],
+    &["blocks", "game.copar", "--stats"],
+    &["explain", "game.copar", "start", "left", "left", "right"],
+    &["explain", "game.copar", "start", "nowhere"],
+    &["certify", "game.copar"],
+    &["check", "game.copar", "game.answer", "start", "left"],
+    &["verify", "game.copar", "game.answer"],
+    &["verify", "game.copar", "game.wrong"],
+    &["verify", "game.copar", "unformed.copar"],
+    &["verify", "game.copar", "absent"],
 ];
 
 fn main(rt: HostRuntime) -> io::Result<()> {

@@ -72,7 +72,8 @@ impl<'a> Evaluator<'a> {
         })
     }
 
-    /// Evaluates the next formula, of the coalgebra and the list of `new`. The error is want of memory.
+    /// Evaluates the next formula, of the coalgebra and the list of `new`. The error is want of
+    /// memory.
     pub fn advance(&mut self, c: &Coalgebra, dag: &Dag) -> Result<(), AllocError>
         requires content { self.old.content ≡ content_of c.now }
         requires dag { self.old.dag ≡ dag.now }

@@ -8,6 +8,7 @@ use crate::tests::{Seen, run_over};
 use copar_run::Status;
 use outside::MemFolder;
 use std::alloc::{AllocError, Global};
+use std::process::Abort;
 use std::test::Fail;
 
 /// A right answer for the four states, and behind each further name what is changed in it.

@@ -72,8 +72,8 @@ fn run_into(
     run_over(alloc, room, &words, folder, failing_writes, failing_lines)
 }
 
-/// A run of these words over the folder. The sink for the output has so much room, and takes at most
-/// 4 bytes at a write.
+/// A run of these words over the folder. The sink for the output has so much room, and takes at
+/// most 4 bytes at a write.
 pub(crate) fn run_over(
     alloc: Global,
     room: usize,

@@ -10,7 +10,9 @@ use formula_builder::Certificates;
 use formulas::{Dag, Formula};
 use modalities::Three;
 use outside::Steps;
-use state_certificates::{Certificate, Explanation, certify_classes, explain_pairs, state_formulas};
+use state_certificates::{
+    Certificate, Explanation, certify_classes, explain_pairs, state_formulas,
+};
 use std::alloc::{AllocError, Global};
 use std::marker::Brand;
 use std::sync::ledger::{Blank, Ledger};
@@ -167,7 +169,10 @@ fn pairs_and_classes_have_their_formulas(rt: HostRuntime) -> Result<(), Fail> {
                 pairs_told(alloc, &pairs)?.as_str(),
                 "0 0 3 3 0 0 3 3 4 4 0 4 8 8 8 0 "
             );
-            assert_eq!(rt; classes_told(alloc, &classes)?.as_str(), "3: 0 1 4: 2 8: 3 ");
+            assert_eq!(rt;
+                classes_told(alloc, &classes)?.as_str(),
+                "3: 0 1 4: 2 8: 3 "
+            );
             // true; a set with a member; none; members of no splitter alone; of both; two parts
             assert_eq!(rt; pairs.dag.len(), 7);
             assert_eq!(rt; classes.dag.len(), 7);

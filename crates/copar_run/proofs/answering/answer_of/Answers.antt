@@ -128,9 +128,11 @@ returns-in_ok-text-in-Explain-clause-made g c =
       subst (λ r. IsMade r (later_stages r) o rise c.done-in-Explain.result.status
           c.done-in-Explain.result.text.items) (sym same)
           (make o request (Stage.FindStates file 0 words ∷ []) (Subject.One source) rise Done
-          c.in_ok-text-in-Explain.text.items
-          (found o file source there 0 words
-          (are-named source.names words c.in-Ok.numbers.items numbered), tt)
+          c.in_ok-text-in-Explain.text.items (
+            found o file source there 0 words
+                (are-named source.names words c.in-Ok.numbers.items numbered),
+            tt,
+          )
           (about-one o file source there request (λ fs is. is)) refl
           (told words (subst (λ is. AreNumbers source.names words is)
           (sym c.as_slice-in-Explain.ensures.value) numbered))

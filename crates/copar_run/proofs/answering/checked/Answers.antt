@@ -118,23 +118,31 @@ returns-clause-made g c =
     c.in-Ok-file_bytes.ensures.within in
     make o (Request.Check file name words)
     (Stage.FindStates file 1 words ∷ of_second file name Form.Formulas)
-    (Subject.WithText source bytes) 0 Done c.in_ok-text.text.items
-    (found o file source c.requires.read 1 words
-    (are-named source.names words numbers c.in-Ok.ensures.found),
-    (got o name bytes holds within,
-    (judged o file source c.requires.read name bytes holds Form.Formulas
-    (λ line bad. unclear (bad_formula_line source.term bytes) line
-    c.in-Ok-read_formulas.ensures.clear bad), tt)))
+    (Subject.WithText source bytes) 0 Done c.in_ok-text.text.items (
+      found o file source c.requires.read 1 words
+          (are-named source.names words numbers c.in-Ok.ensures.found),
+      (
+        got o name bytes holds within,
+        (
+          judged o file source c.requires.read name bytes holds Form.Formulas
+              (λ line bad. unclear (bad_formula_line source.term bytes) line
+              c.in-Ok-read_formulas.ensures.clear bad),
+          tt,
+        ),
+      ),
+    )
     (about-two o file source c.requires.read name bytes holds (Request.Check file name words)
     (λ fs is. is))
-    refl
-    (refl, record {
-      numbers = numbers;
-      dag = dag;
-      named = c.in-Ok.ensures.found;
-      read = c.in-Ok-read_formulas.ensures.good;
-      text = c.in_ok-text.ensures
-          ∙ ap (λ is. truths_text (holds_at source dag) (length dag) words is)
-          c.as_slice.ensures.value;
-    })
+    refl (
+      refl,
+      record {
+        numbers = numbers;
+        dag = dag;
+        named = c.in-Ok.ensures.found;
+        read = c.in-Ok-read_formulas.ensures.good;
+        text = c.in_ok-text.ensures
+            ∙ ap (λ is. truths_text (holds_at source dag) (length dag) words is)
+            c.as_slice.ensures.value;
+      },
+    )
     (c.in-Ok-file_bytes.ensures.counted (λ e. cc)) _ _ c.done.ensures.done c.done.ensures.same

@@ -80,20 +80,26 @@ returns-in-No-clause-made g c =
     let given : IsVerdict source bytes (No c.in-No.reason) =
     subst (λ v. IsVerdict source bytes v) c.in-No.is c.in_ok-line.ensures.verdict in
     make o (Request.Verify file name) (of_second file name Form.Answer)
-    (Subject.WithText source bytes) 0 status.No c.in_ok-reason_line-in-No.field-0.items
-    (got o name bytes holds within,
-    (judged o file source c.requires.read name bytes holds Form.Answer
-    (good-lines source bytes (No c.in-No.reason) refl given), tt))
+    (Subject.WithText source bytes) 0 status.No c.in_ok-reason_line-in-No.field-0.items (
+      got o name bytes holds within,
+      (
+        judged o file source c.requires.read name bytes holds Form.Answer
+            (good-lines source bytes (No c.in-No.reason) refl given),
+        tt,
+      ),
+    )
     (about-two o file source c.requires.read name bytes holds (Request.Verify file name)
     (λ fs is. is))
-    (inr refl)
-    (refl, record {
-      verdict = No c.in-No.reason;
-      given = given;
-      status = refl;
-      text = c.in_ok-reason_line-in-No.ensures.line;
-      right = λ e. absurd (apart-codes (ap code_of e));
-    })
+    (inr refl) (
+      refl,
+      record {
+        verdict = No c.in-No.reason;
+        given = given;
+        status = refl;
+        text = c.in_ok-reason_line-in-No.ensures.line;
+        right = λ e. absurd (apart-codes (ap code_of e));
+      },
+    )
     (c.in-Ok.ensures.counted (λ e. cc)) _ _ refl refl
   where
     apart-codes : ◌≡◌ {A = ℕ} 1 0 → ⊥
@@ -118,18 +124,24 @@ returns-clause-made g c =
     let right : IsRightIfYes source bytes Yes =
     subst (λ v. IsRightIfYes source bytes v) c.in-Yes.is c.in_ok-line.ensures.yes_is_right in
     make o (Request.Verify file name) (of_second file name Form.Answer)
-    (Subject.WithText source bytes) 0 Done c.in_ok-from_slice-in-Yes.field-0.items
-    (got o name bytes holds within,
-    (judged o file source c.requires.read name bytes holds Form.Answer
-    (good-lines source bytes Yes refl given), tt))
+    (Subject.WithText source bytes) 0 Done c.in_ok-from_slice-in-Yes.field-0.items (
+      got o name bytes holds within,
+      (
+        judged o file source c.requires.read name bytes holds Form.Answer
+            (good-lines source bytes Yes refl given),
+        tt,
+      ),
+    )
     (about-two o file source c.requires.read name bytes holds (Request.Verify file name)
     (λ fs is. is))
-    (inl refl)
-    (refl, record {
-      verdict = Yes;
-      given = given;
-      status = refl;
-      text = c.in_ok-from_slice-in-Yes.ensures.items;
-      right = λ e. right;
-    })
+    (inl refl) (
+      refl,
+      record {
+        verdict = Yes;
+        given = given;
+        status = refl;
+        text = c.in_ok-from_slice-in-Yes.ensures.items;
+        right = λ e. right;
+      },
+    )
     (c.in-Ok.ensures.counted (λ e. cc)) _ _ c.done.ensures.done c.done.ensures.same

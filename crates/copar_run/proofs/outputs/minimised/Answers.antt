@@ -37,23 +37,23 @@ returns c =
     } in
     IfOk-weaker c.quotient_text.result (λ text. text.items ≡ canonical (content_of d)) _
     (λ output text.
-      (let made : IsMinimised (content_of source) output.items = record {
-        labels = c.in_ok-labels.labels.items;
-        least = content_of d;
-        classes = c.in_ok-labels.ensures.classes;
-        quotient = record {
-          same_term = c.in_ok-d.ensures.term;
-          same_denominator = c.in_ok-d.ensures.denominator;
-          quotient = subst (λ b. IsQuotient source.term source.names source.values.items b
-              d.names d.values.items) c.as_slice.ensures.value c.in_ok-d.ensures.quotient;
-        };
-        text = text;
-      } in
-          is_minimal (content_of source) output.items made
-          (record {
-            one_each = source.one_each;
-            in_range = subst (λ n. IsTrue (list_all (states_below n) source.values.items))
-                (sym source.one_each) source.in_range;
-          })
-          formed laws))
+    (let made : IsMinimised (content_of source) output.items = record {
+      labels = c.in_ok-labels.labels.items;
+      least = content_of d;
+      classes = c.in_ok-labels.ensures.classes;
+      quotient = record {
+        same_term = c.in_ok-d.ensures.term;
+        same_denominator = c.in_ok-d.ensures.denominator;
+        quotient = subst (λ b. IsQuotient source.term source.names source.values.items b
+            d.names d.values.items) c.as_slice.ensures.value c.in_ok-d.ensures.quotient;
+      };
+      text = text;
+    } in
+    is_minimal (content_of source) output.items made
+    (record {
+      one_each = source.one_each;
+      in_range = subst (λ n. IsTrue (list_all (states_below n) source.values.items))
+          (sym source.one_each) source.in_range;
+    })
+    formed laws))
     c.quotient_text.ensures.canonical
