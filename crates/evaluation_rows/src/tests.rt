@@ -122,6 +122,9 @@ fn truths_of(
     if LONGEST < file.len() {
         return Ok(text);
     }
+    if LONGEST < lines.len() {
+        return Ok(text);
+    }
     if let Ok(c) = read_file(alloc, file) {
         if let Ok(answer) = read_answers(alloc, lines) {
             text = told(alloc, &c, &answer.dag)?;
