@@ -1,4 +1,4 @@
-use Rattle.run_rows.proofs.tests.run_into.Given as goal
+use Rattle.run_rows.proofs.tests.run_over.Given as goal
 
 abbrev pub ghosts-counted : goal.ghosts-counted
 ghosts-counted a = record { name = a.blank.name; parts = a.blank.parts }
