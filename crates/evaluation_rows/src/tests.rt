@@ -46,7 +46,8 @@ fn told_in_turn(alloc: Global, c: &Coalgebra, dag: &Dag) -> Result<String, Alloc
     Ok(text)
 }
 
-/// What a file is about, the file, lines of formulas, and for each formula its truths at the states.
+/// What a file is about, the file, lines of formulas, and for each formula its truths at the
+/// states.
 const ROWS: &[(&str, &[u8], &[u8], &str)] = &[
     (
         "sets, and all kinds of formulas",

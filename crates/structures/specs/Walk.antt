@@ -29,8 +29,8 @@ abbrev pub LeadsTo : Node → ℕ → List Place → Place → ℕ → Type 0
 LeadsTo State n places x y = (i : ℕ) × (state x.1 ≡ Some i) × (i < n) × (y ≡ i)
 LeadsTo _ n places x y = slice_get places y ≡ Some x
 
--- The walk has come to a place: the root structures of the states are first, all are at layer nodes,
--- each place before it has its edges, and those behind it are still to be counted.
+-- The walk has come to a place: the root structures of the states are first, all are at layer
+-- nodes, each place before it has its edges, and those behind it are still to be counted.
 pub record IsWalked
     (t : Nodes) (values : List Value) (places : List Place) (sources targets : List ℕ) (at : ℕ)
     : Type 0 where
