@@ -1,0 +1,15 @@
+mod Names
+mod Lines
+mod Accepts
+mod Words
+mod Terms
+mod Pieces
+mod Powers
+mod ChanceSums
+mod States
+mod Moves
+mod Marked
+mod Sorting
+mod NormalForms
+mod Drawn
+mod Accepted
