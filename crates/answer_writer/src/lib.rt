@@ -1,4 +1,4 @@
-//! The texts of explanations and certificates, and the line of statistics.
+//! The texts of explanations and certificates, the line of statistics, and the summary of a trial.
 //!
 //! Shape: the lines of the formulas, and behind them a line for each pair or block, in order.
 //! Seen as: the text of the formulas and of these lines (`specs/Lines.antt`), which is read as what
@@ -13,6 +13,7 @@ mod certificate;
 mod explanation;
 mod laws;
 mod stats;
+mod summary;
 #[cfg(test)]
 mod tests;
 mod words;
@@ -21,3 +22,4 @@ pub use certificate::certificate_text;
 pub use explanation::explanation_text;
 pub use laws::{block_lines_can_be_said, pair_lines_can_be_said, stats_are_comments};
 pub use stats::stats_line;
+pub use summary::trial_summary;

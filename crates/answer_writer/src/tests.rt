@@ -4,6 +4,7 @@ use file_cut::{CutFault, cut_line};
 use formula_text::read_answers;
 use std::alloc::Global;
 use std::test::Fail;
+use trial_texts::TrialKind;
 use typing::Names;
 
 /// Three states with names.
@@ -54,5 +55,26 @@ fn statistics_are_one_comment(rt: HostRuntime) -> Result<(), Fail> {
     let line = stats_line(rt.alloc(), 4, 17, 4294967296)?;
     let wanted = b"# sorted 4 places 17 labels 4294967296\n";
     assert_eq!(rt; line.as_slice(), wanted.as_slice());
+    Ok(())
+}
+
+#[test]
+fn a_summary_has_six_lines(rt: HostRuntime) -> Result<(), Fail> {
+    let rows: [(TrialKind, &[u32], &[u8]); 2] = [
+        (
+            TrialKind::Dfa,
+            &[0, 0, 2],
+            b"kind dfa\nstates 3\nblocks 2\nsorted 9\nplaces 12\nlabels 4294967296\n",
+        ),
+        (
+            TrialKind::Lts,
+            &[],
+            b"kind lts\nstates 0\nblocks 0\nsorted 9\nplaces 12\nlabels 4294967296\n",
+        ),
+    ];
+    for (kind, firsts, wanted) in rows {
+        let text = trial_summary(rt.alloc(), kind, firsts, 9, 12, 4294967296)?;
+        assert_eq!(rt; text.as_slice(), wanted);
+    }
     Ok(())
 }

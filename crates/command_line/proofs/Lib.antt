@@ -1,2 +1,4 @@
 mod Taken
 mod ByClap
+mod Numbers
+mod Drawable

@@ -23,9 +23,11 @@ abbrev pub stats_rule : Rule
 stats_rule =
     record (new_rule (codes "stats")) { long = Some (codes "stats"); action = Some SetTrue }
 
--- the words as a command of these rules; the name of the program is not among them
+-- the words as a command of these rules, which has a version; the name of the program is not among
+-- the words
 abbrev pub copar_app : App
 copar_app =
     with_rule (with_rule (with_rule (with_rule
-    (on_top (λ s. record s { no_binary_name = true }) (new_app (codes "copar")))
+    (on_top (λ s. record s { no_binary_name = true; has_version = true })
+    (new_app (codes "copar")))
     action_rule) file_rule) rest_rule) stats_rule

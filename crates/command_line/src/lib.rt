@@ -14,6 +14,6 @@ mod usage;
 mod word_list;
 
 pub use laws::plain_words_are_taken;
-pub use request::{Request, asked_by};
+pub use request::{Request, Task, asked_by};
 pub use usage::complaint;
 pub use word_list::WordList;

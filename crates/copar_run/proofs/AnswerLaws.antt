@@ -1,11 +1,10 @@
 -- What is known of explanations and certificates, as their texts ask for it.
-use Rattle.std.proofs.Common.{◌≡◌, ◌≤◌, ◌<◌, ◌+◌, ℕ, zero, suc, arith, List, [], ◌∷◌, length, map, get_or, refl, subst, sym, ◌∙◌, Option, Some, None, IfSome}
-use Rattle.std.specs.Prelude.{slice_index}
+use Rattle.std.proofs.Common.{◌≡◌, ◌≤◌, ◌<◌, ℕ, zero, suc, arith, List, [], ◌∷◌, length, map, get_or, refl, subst, Option, Some, None, IfSome}
 use Rattle.std.specs.List.{All, AllByRecursion, AllZip, Contains}
 use Rattle.std.proofs.lemmas.List.{get_or_default}
 use Rattle.std.proofs.lemmas.List.Elements.{All-from_recursion, recursion_from_All, Contains-get_or}
 use Rattle.std.proofs.lemmas.List.Quantifiers.{position-Some}
-use Rattle.functor_terms.specs.Words.{place_of, is_same_word}
+use Rattle.functor_terms.specs.Words.{is_same_word}
 use Rattle.typing.specs.Contents.{Content}
 use Rattle.formulas.specs.declared.formula.Formula.{Formula}
 use Rattle.state_certificates.specs.Explained.{IsVerdict}

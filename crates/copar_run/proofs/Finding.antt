@@ -1,8 +1,8 @@
 -- Words that name states, one after the other.
-use Rattle.std.proofs.Common.{◌≡◌, ◌∙◌, ℕ, zero, suc, ◌+◌, ◌<◌, arith, List, [], ◌∷◌, ◌++◌, length, map, take, get_or, refl, sym, ap, subst, Option, Some, None, is_some, true≢false}
+use Rattle.std.proofs.Common.{◌≡◌, ℕ, zero, suc, ◌+◌, ◌<◌, arith, List, [], ◌∷◌, ◌++◌, length, map, take, get_or, refl, sym, ap, subst, Some, is_some, true≢false}
 use Rattle.std.specs.Prelude.{slice_get, IsSome, unwrap_or}
 use Rattle.functor_terms.specs.Words.{place_of}
-use Rattle.copar_run.specs.Named.{AreNumbers, IsStranger, AreNamed}
+use Rattle.copar_run.specs.Named.{AreNumbers, AreNamed}
 
 -- nothing stands in an empty list
 nowhere : (k : ℕ) (word : List ℕ) → slice_get [] k ≡ Some word → ⊥

@@ -6,6 +6,7 @@ mod Prefixes
 mod Finding
 mod AnswerLaws
 mod VerdictLaws
+mod SummaryLaws
 mod BlockLaws
 mod NameLaws
 mod MinimalLaws

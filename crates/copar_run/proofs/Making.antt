@@ -1,5 +1,5 @@
 -- How the stages of a run make its end, one before the other.
-use Rattle.std.proofs.Common.{◌≡◌, ◌≢◌, ◌⊎◌, inl, inr, ℕ, ◌≤◌, ◌<◌, ◌+◌, ◌-◌, arith, List, [], ◌∷◌, length, take, refl, ap, sym, ◌∙◌, subst, unwrap_or, slice_get, Option, Some, None, IfSome}
+use Rattle.std.proofs.Common.{◌≡◌, ◌≢◌, ◌⊎◌, inl, inr, ℕ, ◌≤◌, ◌+◌, ◌-◌, arith, List, [], ◌∷◌, length, take, refl, ap, sym, ◌∙◌, subst, unwrap_or, slice_get, Option, Some, None, IfSome}
 use Rattle.std.specs.FinMap as map
 use Rattle.outside.specs.Faults.{Rose}
 use Rattle.outside.specs.Whole.{IsLongerThan}
@@ -11,7 +11,7 @@ use Rattle.copar_run.specs.declared.status.Status.TheVariants.{Done, Grammar, Ty
 use Rattle.structure_parser.specs.Reads.{Reads, Fault, IsFault, most_bytes}
 use Rattle.copar_run.specs.Reading.{Tells, status_of}
 use Rattle.copar_run.specs.Outputs.{Subject, MayEnd, Prints}
-use Rattle.copar_run.specs.Outcome.{Counts, Files, Outside, NoReadFailed, NoWriteFailed, Stage, Form, stages_of, Holds, Denotes, IsBadLine, Cause, Clear, FailedRead, Stops, Passes, Reached, PassesAll, Answers, IsOfOne, IsOfTwo, IsSubject, Ends, Ran, met}
+use Rattle.copar_run.specs.Outcome.{Counts, Files, Outside, NoReadFailed, NoWriteFailed, Stage, Form, stages_of, Holds, Denotes, IsBadLine, Cause, Clear, FailedRead, Stops, Passes, Reached, PassesAll, IsOfOne, IsOfTwo, IsSubject, Ends, Ran, met}
 use Rattle.copar_run.specs.Named.{AreNamed}
 use Rattle.copar_run.specs.Lines.{line_of, line_at, told_line, stranger_line, IsLine}
 use Rattle.copar_run.specs.Standing.{IsMade, IsHalted, IsStrange}
@@ -22,6 +22,11 @@ pub if-some : {A : Type 0} (P Q : A → Type 0) (o : Option A) → ((a : A) → 
     → IfSome o P → IfSome o Q
 if-some P Q None f e = e
 if-some P Q (Some a) f e = f a e
+
+-- and what holds of all holds of it
+pub if-any : {A : Type 0} (P : A → Type 0) (o : Option A) → ((a : A) → P a) → IfSome o P
+if-any P None f = tt
+if-any P (Some a) f = f a
 
 -- and so what follows from both of two
 pub if-both : {A : Type 0} (P Q R : A → Type 0) (o : Option A) → ((a : A) → P a → Q a → R a)
@@ -42,6 +47,17 @@ long-stops o name longer =
         → IsLongerThan file most_bytes → Cause files (Stage.GetFile name) TooLong
     by files None is long = absurd long
     by files (Some bytes) is long = (refl, (bytes, is, long))
+
+-- bytes without a fault are told by want of memory alone
+pub no-fault-told : (bytes : List ℕ) (s : Status) → ((fault : Fault) → ¬ IsFault bytes fault)
+    → Tells bytes s → s ≡ NoMemory
+no-fault-told bytes (Grammar line) none tells = absurd (none (Fault.Grammar line) tells)
+no-fault-told bytes (TypeFault line kind) none tells =
+    absurd (none (Fault.Misfit line kind) tells)
+no-fault-told bytes (WeightBound line) none tells = absurd (none (Fault.PastBound line) tells)
+no-fault-told bytes (SumFault line) none tells = absurd (none (Fault.ShortSum line) tells)
+no-fault-told bytes NoMemory none tells = refl
+no-fault-told bytes _ none tells = absurd tells
 
 -- a status that is of no word has its line
 pub no-word : (s t : Status) (word : List ℕ) → s ≡ t → told_line t word ≡ line_of t

@@ -1,5 +1,5 @@
 -- The quotient by equivalence has no two equivalent states, is read back, and is its own quotient.
-use Rattle.std.proofs.Common.{◌≡◌, ℕ, ◌<◌, List, [], ◌∷◌, length, map, refl, ap, sym, subst, ◌∙◌, arith}
+use Rattle.std.proofs.Common.{◌≡◌, ℕ, List, [], ◌∷◌, length, map, refl, ap, sym, subst, ◌∙◌, arith}
 use Rattle.std.specs.Prelude.{IsTrue}
 use Rattle.std.proofs.lemmas.List.{length-map}
 use Rattle.std.specs.List.{list_all, AllZip}
@@ -11,9 +11,7 @@ use Rattle.typing.specs.Contents.{Content}
 use Rattle.typing.specs.Values.{states_below}
 use Rattle.typing.specs.Fits.{fits}
 use Rattle.typing.specs.Order.{is_normal}
-use Rattle.typing.specs.Stable.{IsStable, AreEquivalent, Refines}
-use Rattle.quotient_writer.specs.Blocks.{first_states}
-use Rattle.quotient_writer.specs.Quotient.{is_numbered}
+use Rattle.typing.specs.Stable.{AreEquivalent}
 use Rattle.quotient_writer.specs.Laws.{QuotientsAreMinimal, MinimalSystemsAreTheirOwnQuotients}
 use Rattle.structure_parser.specs.Reads.{Reads, IsNormalForm}
 use Rattle.structure_writer.specs.Text.{canonical}
@@ -21,7 +19,7 @@ use Rattle.structure_writer.specs.Spelled.{Spells, IsWellFormed}
 use Rattle.structure_writer.specs.Laws.{TextsSpell, TextsAreReadBack, TextsAreOfFractions}
 use Rattle.rescaling.specs.Rescaled.{SameFractions, rescaled}
 use Rattle.rescaling.specs.Laws.{RescalingKeepsStates, SameFractionsSameEquivalence}
-use Rattle.copar_run.specs.Minimal.{AreClasses, IsMinimised, IsMinimal}
+use Rattle.copar_run.specs.Minimal.{IsMinimised, IsMinimal}
 
 -- where all normal forms are of values, they fit and are normal
 forms-fit : (l : ℕ) (t : Nodes) (fs : List Fitted) (vs : List Value)

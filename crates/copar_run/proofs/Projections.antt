@@ -2,13 +2,14 @@
 use Rattle.std.proofs.Common.{◌≡◌, ◌≢◌, ◌⊎◌, inl, inr, ℕ, List, [], refl, ap, sym, subst, ◌∙◌, arith, Some, IfSome, Bool, true, false, true≢false, is_some}
 use Rattle.std.specs.Prelude.{unwrap_or, take}
 use Rattle.outside.specs.Faults.{Rose}
-use Rattle.command_line.specs.Requests.{Request, Asks, AsksNothing}
+use Rattle.command_line.specs.Requests.{Request, Task, Asks, AsksNothing}
+use Rattle.trial_texts.specs.Text.{text_of_trial}
 use Rattle.copar_run.specs.declared.status.Status.{Status}
 use Rattle.copar_run.specs.declared.status.Status.TheVariants.{Done, No, Usage, ReadFault, WriteFault, NoMemory}
 use Rattle.structure_parser.specs.Reads.{Fault}
 use Rattle.copar_run.specs.Reading.{status_of}
-use Rattle.copar_run.specs.Outputs.{Subject, Prints, MayEnd}
-use Rattle.copar_run.specs.Outcome.{Counts, Files, Outside, IsQuiet, NoReadFailed, NoWriteFailed, Stage, stages_of, Cause, MayStop, Stops, Reached, PassesAll, IsRead, IsSubject, IsOfOne, IsOfTwo, Answers, Ends, Ran, is_stop, is_end}
+use Rattle.copar_run.specs.Outputs.{Subject, Prints, MayEnd, MayEndSo}
+use Rattle.copar_run.specs.Outcome.{Counts, Files, Outside, IsQuiet, NoReadFailed, NoWriteFailed, Stage, stages_of, Cause, MayStop, Stops, Reached, PassesAll, IsRead, IsSubject, IsSubjectOf, IsOfOne, IsOfTwo, IsOfBytes, Answers, Ends, Ran, is_stop, is_end}
 use Rattle.copar_run.proofs.Stages.{ReadingLaws, told, may_stop, same_bytes, same_content, blocked, meet, past, read_name}
 
 -- the status is that of a failed read
@@ -67,15 +68,20 @@ pub no_stop : (o : Outside) (stage : Stage) (s t : Status) → Stops o stage s
     → is_stop t ≡ false → s ≡ t → ⊥
 no_stop o stage s t x bad e = true≢false (sym (stops_stop o stage s x) ∙ ap is_stop e ∙ bad)
 
--- a request ends with Done or No
+-- a task ends with Done or No
+task_ended : (task : Task) (s : Status) → MayEndSo task s → is_end s ≡ true
+task_ended (Task.Blocks stats) s e = ap is_end e
+task_ended (Task.Minimise stats) s e = ap is_end e
+task_ended (Task.Explain states stats) s e = ap is_end e
+task_ended (Task.Certify stats) s e = ap is_end e
+task_ended (Task.Check formulas states) s e = ap is_end e
+task_ended (Task.Verify answer) s (inl e) = ap is_end e
+task_ended (Task.Verify answer) s (inr e) = ap is_end e
+
+-- and so does a request
 pub ended : (request : Request) (s : Status) → MayEnd request s → is_end s ≡ true
-ended (Request.Blocks file stats) s e = ap is_end e
-ended (Request.Minimise file stats) s e = ap is_end e
-ended (Request.Explain file states stats) s e = ap is_end e
-ended (Request.Certify file stats) s e = ap is_end e
-ended (Request.Check file formulas states) s e = ap is_end e
-ended (Request.Verify file answer) s (inl e) = ap is_end e
-ended (Request.Verify file answer) s (inr e) = ap is_end e
+ended (Request.OnFile file task) s e = task_ended task s e
+ended (Request.Trial kind seed size) s e = ap is_end e
 
 -- a status after the work is that of no stage
 end_is_no_stop : (s : Status) → is_end s ≡ true → is_stop s ≡ true → ⊥
@@ -249,14 +255,26 @@ module _ (laws : ReadingLaws) (files : Files) (o : Outside) (known : o.files ≡
       ∙ ap (λ bytes. Subject.WithText x.0 bytes) (same_bytes files second x.1 y.1 x.4 y.4)
       ∙ sym x.2
 
-  -- a request is about one subject
+  -- a task on a file is about one subject
+  same_of_task : (file : List ℕ) (t : Task) (a b : Subject) → IsSubjectOf files file t a
+      → IsSubjectOf files file t b → b ≡ a
+  same_of_task file (Task.Blocks stats) a b x y = one_of file a b x y
+  same_of_task file (Task.Minimise stats) a b x y = one_of file a b x y
+  same_of_task file (Task.Explain states stats) a b x y = one_of file a b x y
+  same_of_task file (Task.Certify stats) a b x y = one_of file a b x y
+  same_of_task file (Task.Check formulas states) a b x y = one_of_two file formulas a b x y
+  same_of_task file (Task.Verify answer) a b x y = one_of_two file answer a b x y
+
+  -- and so are bytes
+  one_of_bytes : (bytes : List ℕ) (a b : Subject) → IsOfBytes bytes a → IsOfBytes bytes b → b ≡ a
+  one_of_bytes bytes a b x y =
+      y.1 ∙ ap Subject.One (laws.one bytes x.0 y.0 x.2 y.2) ∙ sym x.1
+
+  -- and a request
   same_subject : (r : Request) (a b : Subject) → IsSubject files r a → IsSubject files r b → b ≡ a
-  same_subject (Request.Blocks file stats) a b x y = one_of file a b x y
-  same_subject (Request.Minimise file stats) a b x y = one_of file a b x y
-  same_subject (Request.Explain file states stats) a b x y = one_of file a b x y
-  same_subject (Request.Certify file stats) a b x y = one_of file a b x y
-  same_subject (Request.Check file formulas states) a b x y = one_of_two file formulas a b x y
-  same_subject (Request.Verify file answer) a b x y = one_of_two file answer a b x y
+  same_subject (Request.OnFile file task) a b x y = same_of_task file task a b x y
+  same_subject (Request.Trial kind seed size) a b x y =
+      one_of_bytes (text_of_trial kind seed size) a b x y
 
   -- where nothing stops the request and no count rose, memory was wanting or the output is that of
   -- its subject

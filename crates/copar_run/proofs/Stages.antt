@@ -1,5 +1,5 @@
 -- At most one stage stops a request, and with one status, save for failed reads.
-use Rattle.std.proofs.Common.{◌≡◌, ◌⊎◌, inl, inr, ℕ, ◌+◌, ◌<◌, List, [], ◌∷◌, length, ap, sym, subst, ◌∙◌, arith, Option, Some, None, IfSome, is_some, true≢false}
+use Rattle.std.proofs.Common.{◌≡◌, ◌⊎◌, inl, inr, ℕ, ◌+◌, List, [], ◌∷◌, length, ap, sym, subst, ◌∙◌, arith, Option, Some, None, IfSome, is_some, true≢false}
 use Rattle.std.proofs.lemmas.Bool.{cases_order}
 use Rattle.std.specs.Prelude.{unwrap_or, IsSome}
 use Rattle.outside.specs.Faults.{Rose}

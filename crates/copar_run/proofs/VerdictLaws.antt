@@ -1,5 +1,5 @@
 -- What is known of verdicts, as runs ask for it.
-use Rattle.std.proofs.Common.{◌≡◌, ◌∙◌, ℕ, zero, suc, ◌<◌, ◌≤◌, ◌==◌, arith, List, [], ◌∷◌, length, map, refl, sym, ap, subst, Option, Some, None, Bool, true, false, true≢false, nat_eq}
+use Rattle.std.proofs.Common.{◌≡◌, ◌∙◌, ℕ, zero, suc, ◌<◌, ◌≤◌, ◌==◌, arith, List, [], ◌∷◌, length, refl, sym, ap, subst, Option, Some, None, Bool, true, false, true≢false}
 use Rattle.std.specs.Prelude.{slice_index, is_some}
 use Rattle.std.specs.List.{range_with_len}
 use Rattle.std.proofs.lemmas.List.{length-map}

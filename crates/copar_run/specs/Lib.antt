@@ -6,6 +6,7 @@ pub mod Explained
 pub mod Certified
 pub mod Checked
 pub mod Verified
+pub mod Summarised
 pub mod Outputs
 pub mod Outcome
 pub mod Lines

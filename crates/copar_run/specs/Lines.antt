@@ -7,7 +7,7 @@
 -- IsLine words o s line   == the line tells how a run on these words may have ended with the status
 -- IsToldOn words o s old new counts
 --                         == a sink with these bytes and counts, before and after, was told so
-use Rattle.std.specs.Prelude.{◌≡◌, ◌≢◌, ◌⊎◌, ℕ, List, [], ◌++◌, ◌-◌, Bool, true, false, take, slice_get, unwrap_or, codes, decimal, Option}
+use Rattle.std.specs.Prelude.{◌≡◌, ◌≢◌, ◌⊎◌, ℕ, List, [], ◌++◌, ◌-◌, true, false, take, slice_get, unwrap_or, codes, decimal, Option}
 use Rattle.std.specs.Io.KnownBytes.{append_known}
 use Rattle.command_line.specs.Requests.{Request, Asks}
 use Rattle.typing.specs.declared.kind.TypeKind.{TypeKind}

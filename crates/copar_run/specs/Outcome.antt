@@ -3,7 +3,7 @@
 -- code_of status            == the number that the program ends with
 -- Outside                   == what a run met outside: the files, and their counts of faults
 -- Stage, stages_of request  == what may stop a request before its work, in the order of refusals
--- later_stages request      == those behind the reading of its first file
+-- later_stages file task    == those behind the reading of the first file
 -- Stops o stage s           == the stage has a cause for this status
 -- Passes o stage            == the stage has none
 -- Reached o stages stage    == each stage before it passes
@@ -15,12 +15,13 @@
 --                           == the request may end so: why, what was written, how many steps
 -- Ran words o counts rise s output
 --                           == the same of the words
-use Rattle.std.specs.Prelude.{◌≡◌, ℕ, ◌+◌, ◌<◌, ◌≤◌, ◌^◌, List, [], ◌∷◌, length, take, ⊤, Bool, true, false, Option, Some, None, IfSome, ◌⊎◌}
+use Rattle.std.specs.Prelude.{◌≡◌, ℕ, ◌+◌, ◌<◌, ◌≤◌, List, [], ◌∷◌, length, take, ⊤, Bool, true, false, Option, Some, IfSome, ◌⊎◌}
 use Rattle.std.specs.Ordering.{nat_cmp}
 use Rattle.std.specs.Cmp.Lexicographic.{slice_cmp}
 use Rattle.std.specs.FinMap as map
 use Rattle.outside.specs.Faults.{last_count, Rose}
-use Rattle.command_line.specs.Requests.{Request, file_of, Asks, AsksNothing}
+use Rattle.trial_texts.specs.Text.{text_of_trial}
+use Rattle.command_line.specs.Requests.{Request, Task, Asks, AsksNothing}
 use Rattle.typing.specs.Contents.{Content, words_of}
 use Rattle.copar_run.specs.declared.status.Status.{Status}
 use Rattle.copar_run.specs.declared.status.Status.TheVariants as status
@@ -125,19 +126,20 @@ of_file file others = Stage.GetFile file ∷ Stage.ReadFile file ∷ others
 abbrev pub of_second : List ℕ → List ℕ → Form → List Stage
 of_second file second form = Stage.GetFile second ∷ Stage.JudgeText file second form ∷ []
 
--- what may stop a request once its first file is read, in the order of refusals
-abbrev pub later_stages : Request → List Stage
-later_stages (Request.Blocks file stats) = []
-later_stages (Request.Minimise file stats) = []
-later_stages (Request.Explain file states stats) = Stage.FindStates file 0 states ∷ []
-later_stages (Request.Certify file stats) = []
-later_stages (Request.Check file formulas states) =
+-- what may stop a task once its first file is read, in the order of refusals
+abbrev pub later_stages : List ℕ → Task → List Stage
+later_stages file (Task.Blocks stats) = []
+later_stages file (Task.Minimise stats) = []
+later_stages file (Task.Explain states stats) = Stage.FindStates file 0 states ∷ []
+later_stages file (Task.Certify stats) = []
+later_stages file (Task.Check formulas states) =
     Stage.FindStates file 1 states ∷ of_second file formulas Formulas
-later_stages (Request.Verify file answer) = of_second file answer Answer
+later_stages file (Task.Verify answer) = of_second file answer Answer
 
--- what may stop a request, in the order of refusals
+-- what may stop a request, in the order of refusals; nothing stops a trial
 abbrev pub stages_of : Request → List Stage
-stages_of request = of_file (file_of request) (later_stages request)
+stages_of (Request.OnFile file task) = of_file file (later_stages file task)
+stages_of (Request.Trial kind seed size) = []
 
 -- the names of the files that stages read, in order
 abbrev pub names_in : List Stage → List (List ℕ)
@@ -239,14 +241,24 @@ IsOfTwo files file second subject =
     (c : Content) × (bytes : List ℕ) × (subject ≡ Subject.WithText c bytes)
     × Denotes files file c × Holds files second bytes
 
--- what the request is about, in these files
+-- what the task on this file is about, in these files
+abbrev pub IsSubjectOf : Files → List ℕ → Task → Subject → Type 0
+IsSubjectOf files file (Task.Blocks stats) subject = IsOfOne files file subject
+IsSubjectOf files file (Task.Minimise stats) subject = IsOfOne files file subject
+IsSubjectOf files file (Task.Explain states stats) subject = IsOfOne files file subject
+IsSubjectOf files file (Task.Certify stats) subject = IsOfOne files file subject
+IsSubjectOf files file (Task.Check formulas states) subject = IsOfTwo files file formulas subject
+IsSubjectOf files file (Task.Verify answer) subject = IsOfTwo files file answer subject
+
+-- it is about the coalgebra that these bytes denote
+abbrev pub IsOfBytes : List ℕ → Subject → Type 0
+IsOfBytes bytes subject = (c : Content) × (subject ≡ Subject.One c) × Reads bytes c
+
+-- what the request is about, in these files; a trial is about the text that it draws
 abbrev pub IsSubject : Files → Request → Subject → Type 0
-IsSubject files (Request.Blocks file stats) subject = IsOfOne files file subject
-IsSubject files (Request.Minimise file stats) subject = IsOfOne files file subject
-IsSubject files (Request.Explain file states stats) subject = IsOfOne files file subject
-IsSubject files (Request.Certify file stats) subject = IsOfOne files file subject
-IsSubject files (Request.Check file formulas states) subject = IsOfTwo files file formulas subject
-IsSubject files (Request.Verify file answer) subject = IsOfTwo files file answer subject
+IsSubject files (Request.OnFile file task) subject = IsSubjectOf files file task subject
+IsSubject files (Request.Trial kind seed size) subject =
+    IsOfBytes (text_of_trial kind seed size) subject
 
 -- the whole output of the request, with the status that comes once it is written
 abbrev pub Answers : Outside → Request → ℕ → Status → List ℕ → Type 0

@@ -9,8 +9,10 @@
 -- Prints request subject rise ending output
 --                  == the output of the request for this subject, after so many steps, and the
 --                     status that comes once it is written
+-- MayEndSo, PrintsFor
+--                  == the same of a task on a file
 use Rattle.std.specs.Prelude.{◌≡◌, ◌⊎◌, ℕ, Bool, true, false, List, [], ◌++◌, length}
-use Rattle.command_line.specs.Requests.{Request}
+use Rattle.command_line.specs.Requests.{Request, Task}
 use Rattle.typing.specs.Contents.{Content}
 use Rattle.typing.specs.Layers.{sorted_count, edge_count}
 use Rattle.desorting.specs.Desorted.{IsDesorted}
@@ -26,6 +28,7 @@ use Rattle.copar_run.specs.Explained.{IsExplained}
 use Rattle.copar_run.specs.Certified.{IsCertified}
 use Rattle.copar_run.specs.Checked.{IsTruthList}
 use Rattle.copar_run.specs.Verified.{IsVerified}
+use Rattle.copar_run.specs.Summarised.{IsSummary}
 
 -- what a request is about: a coalgebra, or one with the bytes of a second file
 pub data Subject : Type 0 where
@@ -57,23 +60,36 @@ WithStats stats c rise IsText output =
     IsCounted c rise
     × ((text : List ℕ) × IsText text × (output ≡ text ++ stats_part stats c rise))
 
+-- the status may come once the output of the task is written
+abbrev pub MayEndSo : Task → Status → Type 0
+MayEndSo (Task.Verify answer) s = (s ≡ Done) ⊎ (s ≡ No)
+MayEndSo _ s = s ≡ Done
+
 -- the status may come once the output is written
 abbrev pub MayEnd : Request → Status → Type 0
-MayEnd (Request.Verify file answer) s = (s ≡ Done) ⊎ (s ≡ No)
-MayEnd _ s = s ≡ Done
+MayEnd (Request.OnFile file task) s = MayEndSo task s
+MayEnd (Request.Trial kind seed size) s = s ≡ Done
+
+-- the output of the task for this subject, after so many steps, and the status that comes then
+abbrev pub PrintsFor : Task → Subject → ℕ → Status → List ℕ → Type 0
+PrintsFor (Task.Blocks stats) (Subject.One c) rise ending output =
+    WithStats stats c rise (IsBlockList c) output
+PrintsFor (Task.Minimise stats) (Subject.One c) rise ending output =
+    WithStats stats c rise (IsMinimal c) output
+PrintsFor (Task.Explain states stats) (Subject.One c) rise ending output =
+    WithStats stats c rise (IsExplained c states) output
+PrintsFor (Task.Certify stats) (Subject.One c) rise ending output =
+    WithStats stats c rise (IsCertified c) output
+PrintsFor (Task.Check formulas states) (Subject.WithText c bytes) rise ending output =
+    (rise ≡ 0) × IsTruthList c bytes states output
+PrintsFor (Task.Verify answer) (Subject.WithText c bytes) rise ending output =
+    (rise ≡ 0) × IsVerified c bytes ending output
+PrintsFor _ _ _ _ _ = ⊥
 
 -- the output of the request for this subject, after so many steps, and the status that comes then
 abbrev pub Prints : Request → Subject → ℕ → Status → List ℕ → Type 0
-Prints (Request.Blocks file stats) (Subject.One c) rise ending output =
-    WithStats stats c rise (IsBlockList c) output
-Prints (Request.Minimise file stats) (Subject.One c) rise ending output =
-    WithStats stats c rise (IsMinimal c) output
-Prints (Request.Explain file states stats) (Subject.One c) rise ending output =
-    WithStats stats c rise (IsExplained c states) output
-Prints (Request.Certify file stats) (Subject.One c) rise ending output =
-    WithStats stats c rise (IsCertified c) output
-Prints (Request.Check file formulas states) (Subject.WithText c bytes) rise ending output =
-    (rise ≡ 0) × IsTruthList c bytes states output
-Prints (Request.Verify file answer) (Subject.WithText c bytes) rise ending output =
-    (rise ≡ 0) × IsVerified c bytes ending output
+Prints (Request.OnFile file task) subject rise ending output =
+    PrintsFor task subject rise ending output
+Prints (Request.Trial kind seed size) (Subject.One c) rise ending output =
+    IsCounted c rise × IsSummary kind c rise output
 Prints _ _ _ _ _ = ⊥

@@ -1,7 +1,7 @@
-//! What requests have for their output, once their first file is read.
+//! What tasks on a file have for their output, once the file is read.
 ghost use Rattle.std.specs.Prelude.{◌≡◌, ◌+◌, ◌≤◌, ◌^◌, ℕ, List, map, IfSome, IfOk, IfErr};
-ghost use Rattle.command_line.specs.Asked.{denoted};
-ghost use Rattle.command_line.specs.Requests.{Request as Wanted, file_of};
+ghost use Rattle.command_line.specs.Asked.{denoted_task};
+ghost use Rattle.command_line.specs.Requests.{Request as Wanted, Task as WantedTask};
 ghost use Rattle.typing.specs.Contents.{content_of};
 ghost use Rattle.copar_run.specs.Outcome.{Denotes, later_stages, met};
 ghost use Rattle.copar_run.specs.Lines.{told_line};
@@ -13,14 +13,14 @@ use crate::outputs::{blocks_output, certified_output, explained_output, minimal_
 use crate::reading::{file_bytes, find_states};
 use crate::verdicts::reason_line;
 use answer_checker::{AnswerFault, Verdict, read_formulas, verify};
-use command_line::Request;
+use command_line::Task;
 use outside::{Folder, Steps};
 use std::alloc::Global;
 use std::sync::ledger::Ledger;
 use truth_writer::truths_text;
 use typing::Coalgebra;
 
-/// What a request has for its output, and the status that comes once it is written.
+/// What there is for output, and the status that comes once it is written.
 #[derive(Drop)]
 pub(crate) struct Made {
     pub text: Vec<u8>,
@@ -28,7 +28,7 @@ pub(crate) struct Made {
 }
 
 /// An output after which a run is done.
-fn done(text: Vec<u8>) -> Made
+pub(crate) fn done(text: Vec<u8>) -> Made
     ensures same { result.text.items ≡ text.items }
     ensures done { result.status ≡ Status.Done }
 {
@@ -38,23 +38,26 @@ fn done(text: Vec<u8>) -> Made
     }
 }
 
-/// What the request has for its output, once its first file is read as this coalgebra, or why it
-/// has none.
+/// What a task on a file has for its output, once the file is read as this coalgebra, or why it has
+/// none.
 pub(crate) fn answer_of<'w, F: Folder, L: Ledger>(
     alloc: Global,
-    request: &Request<'w>,
+    file: &str,
+    task: &Task<'w>,
     c: &Coalgebra,
     folder: &mut F,
     steps: &mut Steps<L>,
 ) -> Result<Made, Ended<'w>>
     requires steps_fit { steps.old ≤ 2 ^ 60 }
     requires read { IfSome (F.files folder.old) (λ files.
-        Denotes files (file_of (denoted request.now)) (content_of c.now)) }
+        Denotes files file.now (content_of c.now)) }
     ensures made { IfOk result (λ made. (rise : ℕ) × (steps.new ≡ steps.old + rise)
-        × IsMade (denoted request.now) (later_stages (denoted request.now))
+        × IsMade (Wanted.OnFile file.now (denoted_task task.now))
+        (later_stages file.now (denoted_task task.now))
         (met (F.files folder.old) (F.faults folder.old) (F.faults folder.new)) rise
         made.status made.text.items) }
-    ensures halted { IfErr result (λ ended. IsHalted (later_stages (denoted request.now))
+    ensures halted { IfErr result (λ ended. IsHalted
+        (later_stages file.now (denoted_task task.now))
         (met (F.files folder.old) (F.faults folder.old) (F.faults folder.new))
         ended.status (told_line ended.status ended.word.now)) }
     ensures grows { steps.old ≤ steps.new }
@@ -62,16 +65,10 @@ pub(crate) fn answer_of<'w, F: Folder, L: Ledger>(
     ensures no_count_falls { (other : List ℕ) →
         F.faults folder.old other ≤ F.faults folder.new other }
 {
-    match request {
-        Request::Blocks { file: _, stats } => Ok(done(blocks_output(alloc, c, *stats, steps)?)),
-        Request::Minimise { file: _, stats } => {
-            Ok(done(minimal_output(alloc, c, *stats, steps)?))
-        }
-        Request::Explain {
-            file: _,
-            states,
-            stats,
-        } => {
+    match task {
+        Task::Blocks { stats } => Ok(done(blocks_output(alloc, c, *stats, steps)?)),
+        Task::Minimise { stats } => Ok(done(minimal_output(alloc, c, *stats, steps)?)),
+        Task::Explain { states, stats } => {
             let numbers = match find_states(alloc, &c.names, 0, states.as_slice()) {
                 Ok(numbers) => numbers,
                 Err(ended) => return Err(ended),
@@ -79,15 +76,11 @@ pub(crate) fn answer_of<'w, F: Folder, L: Ledger>(
             let text = explained_output(alloc, c, numbers.as_slice(), *stats, steps)?;
             Ok(done(text))
         }
-        Request::Certify { file: _, stats } => {
-            Ok(done(certified_output(alloc, c, *stats, steps)?))
+        Task::Certify { stats } => Ok(done(certified_output(alloc, c, *stats, steps)?)),
+        Task::Check { formulas, states } => {
+            checked(alloc, c, file, formulas, states.as_slice(), folder)
         }
-        Request::Check {
-            file,
-            formulas,
-            states,
-        } => checked(alloc, c, file, formulas, states.as_slice(), folder),
-        Request::Verify { file, answer } => judged(alloc, c, file, answer, folder),
+        Task::Verify { answer } => judged(alloc, c, file, answer, folder),
     }
 }
 
@@ -103,12 +96,15 @@ fn checked<'w, F: Folder>(
     requires read { IfSome (F.files folder.old) (λ files.
         Denotes files file.now (content_of c.now)) }
     ensures made { IfOk result (λ made. IsMade
-        (Wanted.Check file.now formulas.now (map (λ word. word.now) states.now))
-        (later_stages (Wanted.Check file.now formulas.now (map (λ word. word.now) states.now)))
+        (Wanted.OnFile file.now
+        (WantedTask.Check formulas.now (map (λ word. word.now) states.now)))
+        (later_stages file.now
+        (WantedTask.Check formulas.now (map (λ word. word.now) states.now)))
         (met (F.files folder.old) (F.faults folder.old) (F.faults folder.new)) 0
         made.status made.text.items) }
     ensures halted { IfErr result (λ ended. IsHalted
-        (later_stages (Wanted.Check file.now formulas.now (map (λ word. word.now) states.now)))
+        (later_stages file.now
+        (WantedTask.Check formulas.now (map (λ word. word.now) states.now)))
         (met (F.files folder.old) (F.faults folder.old) (F.faults folder.new))
         ended.status (told_line ended.status ended.word.now)) }
     ensures files_stay { F.files folder.new ≡ F.files folder.old }
@@ -144,12 +140,13 @@ fn judged<'w, F: Folder>(
 ) -> Result<Made, Ended<'w>>
     requires read { IfSome (F.files folder.old) (λ files.
         Denotes files file.now (content_of c.now)) }
-    ensures made { IfOk result (λ made. IsMade (Wanted.Verify file.now answer.now)
-        (later_stages (Wanted.Verify file.now answer.now))
+    ensures made { IfOk result (λ made. IsMade
+        (Wanted.OnFile file.now (WantedTask.Verify answer.now))
+        (later_stages file.now (WantedTask.Verify answer.now))
         (met (F.files folder.old) (F.faults folder.old) (F.faults folder.new)) 0
         made.status made.text.items) }
     ensures halted { IfErr result (λ ended. IsHalted
-        (later_stages (Wanted.Verify file.now answer.now))
+        (later_stages file.now (WantedTask.Verify answer.now))
         (met (F.files folder.old) (F.faults folder.old) (F.faults folder.new))
         ended.status (told_line ended.status ended.word.now)) }
     ensures files_stay { F.files folder.new ≡ F.files folder.old }

@@ -17,6 +17,7 @@ mod outputs;
 mod reading;
 mod status;
 mod top;
+mod trial;
 mod verdicts;
 
 pub use command_line::WordList;

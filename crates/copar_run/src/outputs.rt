@@ -11,10 +11,12 @@ ghost use Rattle.copar_run.specs.Minimal.{AreClasses, IsMinimal};
 ghost use Rattle.copar_run.specs.Explained.{pairs_of as the_pairs_of, IsExplained};
 ghost use Rattle.copar_run.specs.Certified.{IsCertified};
 ghost use Rattle.copar_run.specs.Named.{AreNumbers};
-ghost use Rattle.copar_run.specs.Outputs.{IsFound, WithStats, stats_part};
+ghost use Rattle.copar_run.specs.Summarised.{IsSummary};
+ghost use Rattle.copar_run.specs.Outputs.{IsCounted, IsFound, WithStats, stats_part};
 
 use answer_writer::{
-    block_lines_can_be_said, certificate_text, explanation_text, pair_lines_can_be_said, stats_line,
+    block_lines_can_be_said, certificate_text, explanation_text, pair_lines_can_be_said,
+    stats_line, trial_summary,
 };
 use classes::{Refinement, firsts_of, refinement_of};
 use outside::Steps;
@@ -27,6 +29,7 @@ use state_certificates::{certify_classes, explain_pairs, state_formulas};
 use std::alloc::{AllocError, Global};
 use std::sync::ledger::Ledger;
 use structure_writer::{texts_are_of_fractions, texts_are_read_back, texts_spell};
+use trial_texts::TrialKind;
 use typing::Coalgebra;
 
 /// The list of the blocks of equivalent states, and the line of statistics where it is wanted. The
@@ -103,6 +106,22 @@ pub(crate) fn certified_output<L: Ledger>(
     with_stats(alloc, text, stats, c, &found)
 }
 
+/// The summary of a drawn coalgebra.
+pub(crate) fn summary_output<L: Ledger>(
+    alloc: Global,
+    kind: TrialKind,
+    c: &Coalgebra,
+    steps: &mut Steps<L>,
+) -> Result<Vec<u8>, AllocError>
+    requires steps_fit { steps.old ≤ 2 ^ 60 }
+    ensures prints { IfOk result (λ output. (rise : ℕ) × (steps.new ≡ steps.old + rise)
+        × IsCounted (content_of c.now) rise × IsSummary kind (content_of c.now) rise output.items) }
+    ensures grows { steps.old ≤ steps.new }
+{
+    let found = refinement_of(alloc, c, steps)?;
+    summarised(alloc, kind, c, &found)
+}
+
 /// The text, and behind it the line of statistics where it is wanted.
 fn with_stats(
     alloc: Global,
@@ -149,6 +168,30 @@ fn block_list(alloc: Global, c: &Coalgebra, found: &Refinement) -> Result<Vec<u8
 {
     let labels = classes(alloc, c, found)?;
     blocks_text(alloc, &c.names, labels.as_slice())
+}
+
+/// The summary of a drawn coalgebra, by the first states of its classes.
+fn summarised(
+    alloc: Global,
+    kind: TrialKind,
+    c: &Coalgebra,
+    found: &Refinement,
+) -> Result<Vec<u8>, AllocError>
+    requires found { IsFound (content_of c.now) found.now }
+    ensures { IfOk result (λ output. IsSummary kind (content_of c.now) found.now.refined.labels
+        output.items) }
+{
+    let firsts = firsts_of(alloc, c, found)?;
+    let edges = found.system.edges();
+    let labels = found.refined.labels();
+    trial_summary(
+        alloc,
+        kind,
+        firsts.as_slice(),
+        found.system.sorted(),
+        edges.len(),
+        labels,
+    )
 }
 
 /// The text of the quotient by equivalence.

@@ -2,21 +2,22 @@
 ghost use Rattle.std.specs.Prelude.{◌≡◌, ◌≢◌, ◌⊎◌, ◌+◌, ◌≤◌, ◌^◌, ℕ, List, [], true, false, IfOk, IfErr, Some};
 ghost use Rattle.std.specs.Io.KnownBytes.{append_known};
 ghost use Rattle.outside.specs.Faults.{Rose};
-ghost use Rattle.command_line.specs.Asked.{denoted};
-ghost use Rattle.command_line.specs.Requests.{Request as Wanted, Asks, AsksNothing};
+ghost use Rattle.command_line.specs.Asked.{denoted, denoted_task};
+ghost use Rattle.command_line.specs.Requests.{Request as Wanted, Asks, AsksNothing, IsDrawable};
 ghost use Rattle.copar_run.specs.declared.status.Status.{Status as Ending};
 ghost use Rattle.copar_run.specs.Outputs.{Subject, Prints, MayEnd};
-ghost use Rattle.copar_run.specs.Outcome.{Files, IsQuiet, stages_of, Cause, Reached, PassesAll, IsRead, IsSubject, Ends, Ran, Stage, counts, is_end, is_stop, met};
+ghost use Rattle.copar_run.specs.Outcome.{Files, IsQuiet, stages_of, Cause, Reached, PassesAll, IsRead, IsSubject, Ends, Ran, Stage, counts, is_end, is_stop, later_stages, met, of_file};
 ghost use Rattle.copar_run.specs.Lines.{IsLine, IsToldOn, told_line};
 ghost use Rattle.copar_run.specs.Standing.{IsHalted, IsMade};
 
 use crate::Status;
-use crate::answering::{Made, answer_of};
+use crate::answering::{Made, answer_of, done};
 use crate::ended::Ended;
 use crate::laws::runs_end_so;
 use crate::lines::tell;
 use crate::reading::{coalgebra_of, file_bytes};
-use command_line::{Request, WordList, asked_by};
+use crate::trial::trial_output;
+use command_line::{Request, Task, WordList, asked_by};
 use outside::{Folder, Sink, Steps, put_all};
 use std::alloc::Global;
 use std::sync::ledger::Ledger;
@@ -29,6 +30,7 @@ fn output_over<'w, F: Folder, L: Ledger>(
     steps: &mut Steps<L>,
 ) -> Result<Made, Ended<'w>>
     requires steps_fit { steps.old ≤ 2 ^ 60 }
+    requires drawable { IsDrawable (denoted request.now) }
     ensures made { IfOk result (λ made. (rise : ℕ) × (steps.new ≡ steps.old + rise)
         × IsMade (denoted request.now) (stages_of (denoted request.now))
         (met (F.files folder.old) (F.faults folder.old) (F.faults folder.new)) rise
@@ -41,7 +43,41 @@ fn output_over<'w, F: Folder, L: Ledger>(
     ensures no_count_falls { (other : List ℕ) →
         F.faults folder.old other ≤ F.faults folder.new other }
 {
-    let bytes = match file_bytes(alloc, folder, request.file()) {
+    match request {
+        Request::OnFile { file, task } => output_on(alloc, file, task, folder, steps),
+        Request::Trial { kind, seed, size } => {
+            match trial_output(alloc, *kind, *seed, *size, steps) {
+                Ok(text) => Ok(done(text)),
+                Err(ended) => Err(ended),
+            }
+        }
+    }
+}
+
+/// What a task on a file has for its output over the folder, or why it has none.
+fn output_on<'w, F: Folder, L: Ledger>(
+    alloc: Global,
+    file: &str,
+    task: &Task<'w>,
+    folder: &mut F,
+    steps: &mut Steps<L>,
+) -> Result<Made, Ended<'w>>
+    requires steps_fit { steps.old ≤ 2 ^ 60 }
+    ensures made { IfOk result (λ made. (rise : ℕ) × (steps.new ≡ steps.old + rise)
+        × IsMade (Wanted.OnFile file.now (denoted_task task.now))
+        (of_file file.now (later_stages file.now (denoted_task task.now)))
+        (met (F.files folder.old) (F.faults folder.old) (F.faults folder.new)) rise
+        made.status made.text.items) }
+    ensures halted { IfErr result (λ ended. IsHalted
+        (of_file file.now (later_stages file.now (denoted_task task.now)))
+        (met (F.files folder.old) (F.faults folder.old) (F.faults folder.new))
+        ended.status (told_line ended.status ended.word.now)) }
+    ensures grows { steps.old ≤ steps.new }
+    ensures files_stay { F.files folder.new ≡ F.files folder.old }
+    ensures no_count_falls { (other : List ℕ) →
+        F.faults folder.old other ≤ F.faults folder.new other }
+{
+    let bytes = match file_bytes(alloc, folder, file) {
         Ok(bytes) => bytes,
         Err(status) => return Err(Ended::by(status)),
     };
@@ -49,7 +85,7 @@ fn output_over<'w, F: Folder, L: Ledger>(
         Ok(c) => c,
         Err(status) => return Err(Ended::by(status)),
     };
-    answer_of(alloc, request, &c, folder, steps)
+    answer_of(alloc, file, task, &c, folder, steps)
 }
 
 /// Answers a request over the folder on `out`, and says how that ended.
@@ -61,6 +97,7 @@ fn work<'w, F: Folder, O: Sink, L: Ledger>(
     steps: &mut Steps<L>,
 ) -> Ended<'w>
     requires steps_fit { steps.old ≤ 2 ^ 60 }
+    requires drawable { IsDrawable (denoted request.now) }
     ensures ends { (rise : ℕ) × (output : List ℕ) × (steps.new ≡ steps.old + rise)
         × (O.taken out.new ≡ append_known (O.taken out.old) output)
         × (output ≡ [] → result.status ≢ Status.WriteFault → out.new ≡ out.old)
@@ -167,11 +204,11 @@ pub fn answer<'w, F: Folder, O: Sink, L: Ledger>(
     ensures untouched { is_end result.status ≡ false → result.status ≢ Status.WriteFault →
         out.new ≡ out.old }
     // Where nothing stops the request and nothing fails, only memory can be wanting, or `out` got
-    // what the request prints for the coalgebra that its file denotes. For `blocks`, two states
-    // share a printed block exactly if they are behaviourally equivalent; for `minimise`, it is the
-    // quotient, and no two of its states are equivalent; for `explain`, each formula that separates
-    // two states holds at the first and fails at the second; and for `verify`, Done comes only
-    // where the blocks of the answer are those of equivalence.
+    // what the request prints for the coalgebra that its file denotes, or that a trial draws. For
+    // `blocks`, two states share a printed block exactly if they are behaviourally equivalent; for
+    // `minimise`, it is the quotient, and no two of its states are equivalent; for `explain`, each
+    // formula that separates two states holds at the first and fails at the second; and for
+    // `verify`, Done comes only where the blocks of the answer are those of equivalence.
     ensures headline { (files : Files) (request : Wanted) (subject : Subject) →
         F.files folder.old ≡ Some files → Asks words.now request → PassesAll (met
         (F.files folder.old) (F.faults folder.old) (F.faults folder.new)) (stages_of request) →
@@ -243,11 +280,11 @@ pub fn run<F: Folder, O: Sink, E: Sink, L: Ledger>(
     // a refused run makes no call on `out`
     ensures untouched { is_end result ≡ false → result ≢ Status.WriteFault → out.new ≡ out.old }
     // Where nothing stops the request and nothing fails, only memory can be wanting, or `out` got
-    // what the request prints for the coalgebra that its file denotes. For `blocks`, two states
-    // share a printed block exactly if they are behaviourally equivalent; for `minimise`, it is the
-    // quotient, and no two of its states are equivalent; for `explain`, each formula that separates
-    // two states holds at the first and fails at the second; and for `verify`, Done comes only
-    // where the blocks of the answer are those of equivalence.
+    // what the request prints for the coalgebra that its file denotes, or that a trial draws. For
+    // `blocks`, two states share a printed block exactly if they are behaviourally equivalent; for
+    // `minimise`, it is the quotient, and no two of its states are equivalent; for `explain`, each
+    // formula that separates two states holds at the first and fails at the second; and for
+    // `verify`, Done comes only where the blocks of the answer are those of equivalence.
     ensures headline { (files : Files) (request : Wanted) (subject : Subject) →
         F.files folder.old ≡ Some files → Asks words.now request → PassesAll (met
         (F.files folder.old) (F.faults folder.old) (F.faults folder.new)) (stages_of request) →

@@ -37,6 +37,10 @@ const LINES: &[&[&str]] = &[
     &["verify", "game.copar", "game.wrong"],
     &["verify", "game.copar", "unformed.copar"],
     &["verify", "game.copar", "absent"],
+    &["explain", "vending.copar", "ready", "only_tea"],
+    &["certify", "vending.copar"],
+    &["verify", "vending.copar", "vending.answer"],
+    &["trial", "dfa", "0", "1"],
 ];
 
 fn main(rt: HostRuntime) -> io::Result<()> {

@@ -11,3 +11,5 @@ mod generated;
 mod tables;
 #[cfg(test)]
 mod tests;
+#[cfg(test)]
+mod trials;

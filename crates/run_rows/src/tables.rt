@@ -526,6 +526,13 @@ pub(crate) const TAKEN: &[(&[&str], Status)] = &[
     (&["check", "F", "F", "a"], Status::AnswerText { line: 1 }),
     (&["verify", "F", "G"], Status::ReadFault),
     (&["verify", "F", "--", "-x"], Status::AnswerText { line: 1 }),
+    (&["trial", "dfa", "0", "1"], Status::Done),
+    (&["trial", "lts", "007", "0200"], Status::Done),
+    (
+        &["trial", "chain", "18446744073709551615", "1"],
+        Status::Done,
+    ),
+    (&["trial", "--", "sums", "1", "2"], Status::Done),
 ];
 
 /// Words that ask for nothing that the program does.
@@ -545,11 +552,6 @@ pub(crate) const REFUSED: &[&[&str]] = &[
     &["blocks", "F", "--stats", "--stats"],
     &["blocks", "F", "--stats=1"],
     &["blocks", "F", "--stat"],
-    &["blocks", "F", "--help"],
-    &["--help"],
-    &["-h"],
-    &["--version"],
-    &["-V"],
     &["blocks", "-x"],
     &["blocks", "F", "-x"],
     &["explain", "F"],
@@ -563,9 +565,23 @@ pub(crate) const REFUSED: &[&[&str]] = &[
     &["verify", "F"],
     &["verify", "F", "G", "H"],
     &["verify", "--stats", "F", "G"],
-    &["trial", "dfa", "0", "1"],
+    &["trial"],
+    &["trial", "dfa"],
+    &["trial", "dfa", "1"],
+    &["trial", "dfa", "1", "2", "3"],
     &["trial", "dfa", "1", "0"],
+    &["trial", "dfa", "1", "200001"],
     &["trial", "dfa", "18446744073709551616", "1"],
+    &["trial", "dfa", "+1", "1"],
+    &["trial", "dfa", "1", "+1"],
+    &["trial", "dfa", "1", "1.0"],
+    &["trial", "dfa", "1", " 1"],
+    &["trial", "dfa", "0x1", "1"],
+    &["trial", "DFA", "1", "1"],
+    &["trial", "dfa", "1", "1", "--stats"],
+    &["trial", "dfa", "1", "-1"],
+    &["trial", "dfa", "1", "--", "-1"],
+    &["trial", "", "1", "1"],
     &["compare", "F", "G", "a", "b"],
     &["help"],
     &["help", "F"],
@@ -600,6 +616,33 @@ pub(crate) const COMPLAINTS: &[(&[&str], &[u8])] = &[
     (
         &["check", "F", "G"],
         b"copar: the command check takes two files and at least one state\n",
+    ),
+    (
+        &["trial", "dfa", "1"],
+        b"copar: the command trial takes a kind, a seed and a size\n",
+    ),
+    (
+        &["trial", "dfa", "1", "1", "--stats"],
+        b"copar: the command trial takes no --stats\n",
+    ),
+    (
+        &["trial", "nfa", "1", "1"],
+        b"copar: a trial has a kind (lts, chain, sums or dfa), a seed below 2^64 and a size from 1 to \
+        200000\n",
+    ),
+    (&["--version"], b"copar 0.1.0\n"),
+    (&["-V"], b"copar 0.1.0\n"),
+    (
+        &["--help"],
+        b"Minimise systems of finite states, tell why two states differ, and check\n",
+    ),
+    (
+        &["-h"],
+        b"Minimise systems of finite states, tell why two states differ, and check\n",
+    ),
+    (
+        &["blocks", "F", "--help"],
+        b"Minimise systems of finite states, tell why two states differ, and check\n",
     ),
     (
         &["blocks", ""],

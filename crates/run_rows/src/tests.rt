@@ -284,6 +284,7 @@ fn words_of_no_row_are_refused_with_help(rt: HostRuntime) -> Result<(), Fail> {
     }
     for (words, front) in COMPLAINTS {
         let seen = run_words(rt.alloc(), words)?;
+        assert_eq!(rt; seen.status, Status::Usage, "{words:?}");
         assert!(rt; seen.err.bytes().starts_with(front), "{words:?}");
     }
     Ok(())

@@ -1,14 +1,14 @@
-use Rattle.std.proofs.Common.{◌≡◌, ◌⊎◌, ◌<◌, ◌∙◌, [], ◌∷◌, length, map, refl, sym, ap, subst, IfSome}
+use Rattle.std.proofs.Common.{◌≡◌, ◌⊎◌, ◌<◌, [], ◌∷◌, length, map, refl, sym, ap, subst}
 use Rattle.std.specs.List.{All}
-use Rattle.command_line.specs.Asked.{denoted}
-use Rattle.command_line.specs.Requests.{Request, file_of}
+use Rattle.command_line.specs.Asked.{denoted_task}
+use Rattle.command_line.specs.Requests.{Request, Task}
 use Rattle.typing.specs.Contents.{content_of}
 use Rattle.copar_run.specs.declared.status.Status.TheVariants.{Done, NoMemory}
 use Rattle.copar_run.specs.Outputs.{Subject}
 use Rattle.copar_run.specs.Named.{AreNumbers}
 use Rattle.copar_run.specs.Lines.{told_line}
 use Rattle.copar_run.specs.Standing.{IsHalted, IsMade, IsStrange}
-use Rattle.copar_run.specs.Outcome.{Denotes, Stage, later_stages, met}
+use Rattle.copar_run.specs.Outcome.{Stage, later_stages, met}
 use Rattle.copar_run.proofs.Making.{found, halt-at-finding, about-one, make}
 use Rattle.copar_run.proofs.Finding.{are-named}
 use Rattle.copar_run.proofs.AnswerLaws.{numbers-named}
@@ -20,19 +20,18 @@ returns-in_ok-blocks_output-in-Blocks-clause-made g c =
     let o = met files (g.F.Folder.faults c.args.folder.now)
     (g.F.Folder.faults c.args.folder.now) in
     let source = content_of c.args.c.now in
-    let file = c.in-Blocks.file.now in
-    let request = Request.Blocks file c.in-Blocks.stats in
-    let same : denoted c.args.request.now ≡ request = ap denoted c.in-Blocks.is in
-    let there : IfSome files (λ fs. Denotes fs file source) =
-    subst (λ r. IfSome files (λ fs. Denotes fs (file_of r) source)) same c.requires.read in
+    let file = c.args.file.now in
+    let task = Task.Blocks c.in-Blocks.stats in
+    let request = Request.OnFile file task in
+    let same : denoted_task c.args.task.now ≡ task = ap denoted_task c.in-Blocks.is in
     let (rise, risen, prints) = c.in_ok-blocks_output-in-Blocks.ensures.prints in (
       rise,
       risen,
-      subst (λ r. IsMade r (later_stages r) o rise c.done.result.status
+      subst (λ t. IsMade (Request.OnFile file t) (later_stages file t) o rise c.done.result.status
           c.done.result.text.items) (sym same)
           (make o request [] (Subject.One source) rise Done
           c.in_ok-blocks_output-in-Blocks.field-0.items tt
-          (about-one o file source there request (λ fs is. is)) refl prints (λ name. refl) _ _
+          (about-one o file source c.requires.read request (λ fs is. is)) refl prints (λ name. refl) _ _
           c.done.ensures.done c.done.ensures.same),
     )
 
@@ -42,19 +41,18 @@ returns-in_ok-minimal_output-in-Minimise-clause-made g c =
     let o = met files (g.F.Folder.faults c.args.folder.now)
     (g.F.Folder.faults c.args.folder.now) in
     let source = content_of c.args.c.now in
-    let file = c.in-Minimise.file.now in
-    let request = Request.Minimise file c.in-Minimise.stats in
-    let same : denoted c.args.request.now ≡ request = ap denoted c.in-Minimise.is in
-    let there : IfSome files (λ fs. Denotes fs file source) =
-    subst (λ r. IfSome files (λ fs. Denotes fs (file_of r) source)) same c.requires.read in
+    let file = c.args.file.now in
+    let task = Task.Minimise c.in-Minimise.stats in
+    let request = Request.OnFile file task in
+    let same : denoted_task c.args.task.now ≡ task = ap denoted_task c.in-Minimise.is in
     let (rise, risen, prints) = c.in_ok-minimal_output-in-Minimise.ensures.prints in (
       rise,
       risen,
-      subst (λ r. IsMade r (later_stages r) o rise c.done-in-Minimise.result.status
+      subst (λ t. IsMade (Request.OnFile file t) (later_stages file t) o rise c.done-in-Minimise.result.status
           c.done-in-Minimise.result.text.items) (sym same)
           (make o request [] (Subject.One source) rise Done
           c.in_ok-minimal_output-in-Minimise.field-0.items tt
-          (about-one o file source there request (λ fs is. is)) refl prints (λ name. refl) _ _
+          (about-one o file source c.requires.read request (λ fs is. is)) refl prints (λ name. refl) _ _
           c.done-in-Minimise.ensures.done c.done-in-Minimise.ensures.same),
     )
 
@@ -64,19 +62,18 @@ returns-in_ok-certified_output-in-Certify-clause-made g c =
     let o = met files (g.F.Folder.faults c.args.folder.now)
     (g.F.Folder.faults c.args.folder.now) in
     let source = content_of c.args.c.now in
-    let file = c.in-Certify.file.now in
-    let request = Request.Certify file c.in-Certify.stats in
-    let same : denoted c.args.request.now ≡ request = ap denoted c.in-Certify.is in
-    let there : IfSome files (λ fs. Denotes fs file source) =
-    subst (λ r. IfSome files (λ fs. Denotes fs (file_of r) source)) same c.requires.read in
+    let file = c.args.file.now in
+    let task = Task.Certify c.in-Certify.stats in
+    let request = Request.OnFile file task in
+    let same : denoted_task c.args.task.now ≡ task = ap denoted_task c.in-Certify.is in
     let (rise, risen, prints) = c.in_ok-certified_output-in-Certify.ensures.prints in (
       rise,
       risen,
-      subst (λ r. IsMade r (later_stages r) o rise c.done-in-Certify.result.status
+      subst (λ t. IsMade (Request.OnFile file t) (later_stages file t) o rise c.done-in-Certify.result.status
           c.done-in-Certify.result.text.items) (sym same)
           (make o request [] (Subject.One source) rise Done
           c.in_ok-certified_output-in-Certify.field-0.items tt
-          (about-one o file source there request (λ fs is. is)) refl prints (λ name. refl) _ _
+          (about-one o file source c.requires.read request (λ fs is. is)) refl prints (λ name. refl) _ _
           c.done-in-Certify.ensures.done c.done-in-Certify.ensures.same),
     )
 
@@ -86,16 +83,15 @@ returns-in-Err-clause-halted g c =
     let o = met files (g.F.Folder.faults c.args.folder.now)
     (g.F.Folder.faults c.args.folder.now) in
     let source = content_of c.args.c.now in
-    let file = c.in-Explain.file.now in
+    let file = c.args.file.now in
     let words = map (λ word. word.now) c.in-Explain.states.items in
-    let request = Request.Explain file words c.in-Explain.stats in
-    let same : denoted c.args.request.now ≡ request = ap denoted c.in-Explain.is in
-    let there : IfSome files (λ fs. Denotes fs file source) =
-    subst (λ r. IfSome files (λ fs. Denotes fs (file_of r) source)) same c.requires.read in
+    let task = Task.Explain words c.in-Explain.stats in
+    let request = Request.OnFile file task in
+    let same : denoted_task c.args.task.now ≡ task = ap denoted_task c.in-Explain.is in
     let s = c.in-Err.ended.status in
     let word = c.in-Err.ended.word.now in
-    subst (λ r. IsHalted (later_stages r) o s (told_line s word)) (sym same)
-    (halt-at-finding o file source there 0 words [] s word
+    subst (λ t. IsHalted (later_stages file t) o s (told_line s word)) (sym same)
+    (halt-at-finding o file source c.requires.read 0 words [] s word
     (subst (λ ws. (s ≡ NoMemory) ⊎ IsStrange source.names (map (λ w. w.now) ws) 0 s word)
     c.as_slice.ensures.value c.in-Err.ensures.strange)
     (λ name. refl))
@@ -113,27 +109,26 @@ returns-in_ok-text-in-Explain-clause-made g c =
     let o = met files (g.F.Folder.faults c.args.folder.now)
     (g.F.Folder.faults c.args.folder.now) in
     let source = content_of c.args.c.now in
-    let file = c.in-Explain.file.now in
+    let file = c.args.file.now in
     let words = map (λ word. word.now) c.in-Explain.states.items in
-    let request = Request.Explain file words c.in-Explain.stats in
-    let same : denoted c.args.request.now ≡ request = ap denoted c.in-Explain.is in
-    let there : IfSome files (λ fs. Denotes fs file source) =
-    subst (λ r. IfSome files (λ fs. Denotes fs (file_of r) source)) same c.requires.read in
+    let task = Task.Explain words c.in-Explain.stats in
+    let request = Request.OnFile file task in
+    let same : denoted_task c.args.task.now ≡ task = ap denoted_task c.in-Explain.is in
     let numbered : AreNumbers source.names words c.in-Ok.numbers.items =
     subst (λ ws. AreNumbers source.names (map (λ w. w.now) ws) c.in-Ok.numbers.items)
     c.as_slice.ensures.value c.in-Ok.ensures.found in
     let (rise, risen, told) = c.in_ok-text-in-Explain.ensures.prints in (
       rise,
       risen,
-      subst (λ r. IsMade r (later_stages r) o rise c.done-in-Explain.result.status
+      subst (λ t. IsMade (Request.OnFile file t) (later_stages file t) o rise c.done-in-Explain.result.status
           c.done-in-Explain.result.text.items) (sym same)
           (make o request (Stage.FindStates file 0 words ∷ []) (Subject.One source) rise Done
           c.in_ok-text-in-Explain.text.items (
-            found o file source there 0 words
+            found o file source c.requires.read 0 words
                 (are-named source.names words c.in-Ok.numbers.items numbered),
             tt,
           )
-          (about-one o file source there request (λ fs is. is)) refl
+          (about-one o file source c.requires.read request (λ fs is. is)) refl
           (told words (subst (λ is. AreNumbers source.names words is)
           (sym c.as_slice-in-Explain.ensures.value) numbered))
           (λ name. refl) _ _ c.done-in-Explain.ensures.done c.done-in-Explain.ensures.same),

@@ -1,8 +1,8 @@
-use Rattle.std.proofs.Common.{◌≡◌, ◌≢◌, ◌⊎◌, ◌<◌, ◌≤◌, ◌∙◌, [], ◌∷◌, inl, inr, length, map, refl, sym, ap, subst, IfSome}
+use Rattle.std.proofs.Common.{◌≡◌, ◌⊎◌, ◌<◌, ◌≤◌, ◌∙◌, [], ◌∷◌, length, map, refl, sym, ap, subst, IfSome}
 use Rattle.std.specs.List.{All}
 use Rattle.std.proofs.lemmas.List.{length-map}
 use Rattle.std.proofs.lemmas.Slice.Zip.{AllZip-long}
-use Rattle.command_line.specs.Requests.{Request}
+use Rattle.command_line.specs.Requests.{Request, Task}
 use Rattle.typing.specs.Contents.{content_of}
 use Rattle.structure_parser.specs.Reads.{most_bytes}
 use Rattle.truth_writer.specs.Truths.{truths_text}
@@ -12,7 +12,6 @@ use Rattle.answer_checker.specs.Verdicts.{TellsBadFormula}
 use Rattle.copar_run.specs.declared.status.Status.TheVariants as status
 use Rattle.copar_run.specs.declared.status.Status.TheVariants.{Done, ReadFault, NoMemory}
 use Rattle.copar_run.specs.Outputs.{Subject}
-use Rattle.copar_run.specs.Named.{AreNumbers}
 use Rattle.copar_run.specs.Lines.{told_line}
 use Rattle.copar_run.specs.Standing.{IsHalted}
 use Rattle.copar_run.specs.Outcome.{Form, Holds, Stage, Stops, of_second, met}
@@ -116,7 +115,7 @@ returns-clause-made g c =
     let within : length bytes ≤ most_bytes =
     subst (λ b. length b ≤ most_bytes) (sym c.deref.ensures.value)
     c.in-Ok-file_bytes.ensures.within in
-    make o (Request.Check file name words)
+    make o (Request.OnFile file (Task.Check name words))
     (Stage.FindStates file 1 words ∷ of_second file name Form.Formulas)
     (Subject.WithText source bytes) 0 Done c.in_ok-text.text.items (
       found o file source c.requires.read 1 words
@@ -131,7 +130,7 @@ returns-clause-made g c =
         ),
       ),
     )
-    (about-two o file source c.requires.read name bytes holds (Request.Check file name words)
+    (about-two o file source c.requires.read name bytes holds (Request.OnFile file (Task.Check name words))
     (λ fs is. is))
     refl (
       refl,

@@ -1,5 +1,5 @@
-use Rattle.std.proofs.Common.{◌≡◌, ◌≢◌, ◌⊎◌, ◌≤◌, ◌∙◌, ℕ, [], ◌∷◌, inl, inr, length, refl, sym, ap, subst, arith, IfSome}
-use Rattle.command_line.specs.Requests.{Request}
+use Rattle.std.proofs.Common.{◌≡◌, ◌⊎◌, ◌≤◌, ◌∙◌, ℕ, [], ◌∷◌, inl, inr, length, refl, sym, ap, subst, arith, IfSome}
+use Rattle.command_line.specs.Requests.{Request, Task}
 use Rattle.typing.specs.Contents.{content_of}
 use Rattle.structure_parser.specs.Reads.{most_bytes}
 use Rattle.answer_checker.specs.Verdicts.{IsVerdict, IsRightIfYes}
@@ -10,7 +10,7 @@ use Rattle.copar_run.specs.Outputs.{Subject}
 use Rattle.copar_run.specs.Verified.{AreReasonStates}
 use Rattle.copar_run.specs.Lines.{told_line}
 use Rattle.copar_run.specs.Standing.{IsHalted}
-use Rattle.copar_run.specs.Outcome.{Form, Holds, Stage, Stops, of_second, is_stop, code_of, met}
+use Rattle.copar_run.specs.Outcome.{Form, Holds, Stage, Stops, of_second, code_of, met}
 use Rattle.copar_run.proofs.Making.{behind, halt-reading, halt-text, got, judged, about-two, make}
 use Rattle.copar_run.proofs.VerdictLaws.{bad-line, good-lines, reason-states}
 use Rattle.copar_run.proofs.answering.judged.Goals as goal
@@ -79,7 +79,7 @@ returns-in-No-clause-made g c =
     subst (λ b. length b ≤ most_bytes) (sym c.deref.ensures.value) c.in-Ok.ensures.within in
     let given : IsVerdict source bytes (No c.in-No.reason) =
     subst (λ v. IsVerdict source bytes v) c.in-No.is c.in_ok-line.ensures.verdict in
-    make o (Request.Verify file name) (of_second file name Form.Answer)
+    make o (Request.OnFile file (Task.Verify name)) (of_second file name Form.Answer)
     (Subject.WithText source bytes) 0 status.No c.in_ok-reason_line-in-No.field-0.items (
       got o name bytes holds within,
       (
@@ -88,7 +88,7 @@ returns-in-No-clause-made g c =
         tt,
       ),
     )
-    (about-two o file source c.requires.read name bytes holds (Request.Verify file name)
+    (about-two o file source c.requires.read name bytes holds (Request.OnFile file (Task.Verify name))
     (λ fs is. is))
     (inr refl) (
       refl,
@@ -123,7 +123,7 @@ returns-clause-made g c =
     subst (λ v. IsVerdict source bytes v) c.in-Yes.is c.in_ok-line.ensures.verdict in
     let right : IsRightIfYes source bytes Yes =
     subst (λ v. IsRightIfYes source bytes v) c.in-Yes.is c.in_ok-line.ensures.yes_is_right in
-    make o (Request.Verify file name) (of_second file name Form.Answer)
+    make o (Request.OnFile file (Task.Verify name)) (of_second file name Form.Answer)
     (Subject.WithText source bytes) 0 Done c.in_ok-from_slice-in-Yes.field-0.items (
       got o name bytes holds within,
       (
@@ -132,7 +132,7 @@ returns-clause-made g c =
         tt,
       ),
     )
-    (about-two o file source c.requires.read name bytes holds (Request.Verify file name)
+    (about-two o file source c.requires.read name bytes holds (Request.OnFile file (Task.Verify name))
     (λ fs is. is))
     (inl refl) (
       refl,

@@ -1,11 +1,10 @@
-use Rattle.std.proofs.Common.{◌≡◌, ◌++◌, ◌<◌, ◌^◌, List, ℕ, Ok, map, length, arith, ap, sym, subst, ◌∙◌}
+use Rattle.std.proofs.Common.{◌≡◌, ◌++◌, ◌<◌, ◌^◌, map, length, arith, ap, sym, subst, ◌∙◌}
 use Rattle.std.specs.List.{All}
 use Rattle.std.proofs.lemmas.Result.{IfOk-weaker}
 use Rattle.typing.specs.Contents.{content_of}
 use Rattle.formula_text.specs.Answers.{certificate_of}
 use Rattle.formula_text.specs.Texts.{text_of_answers}
 use Rattle.answer_writer.specs.Lines.{AreStatesOf, block_lines}
-use Rattle.copar_run.specs.Certified.{IsCertified}
 use Rattle.copar_run.proofs.AnswerLaws.{all-before-map, states-named, blocks-said, formulas-there}
 use Rattle.copar_run.proofs.outputs.certified.Goals as goal
 

@@ -1,4 +1,4 @@
-use Rattle.std.proofs.Common.{◌≡◌, ◌∙◌, IsTrue, true, sym, subst}
+use Rattle.std.proofs.Common.{◌≡◌, ◌∙◌, IsTrue, sym, subst}
 use Rattle.std.specs.List.{list_all}
 use Rattle.typing.specs.Contents.{content_of}
 use Rattle.typing.specs.Values.{states_below}

@@ -1,13 +1,13 @@
-use Rattle.std.proofs.Common.{◌≡◌, ◌++◌, ◌<◌, ◌^◌, List, ℕ, Ok, length, arith, ap, sym, subst, ◌∙◌}
+use Rattle.std.proofs.Common.{◌≡◌, ◌++◌, ◌<◌, ◌^◌, length, arith, ap, sym, subst, ◌∙◌}
 use Rattle.std.specs.List.{All}
 use Rattle.std.proofs.lemmas.Result.{IfOk-weaker}
 use Rattle.std.proofs.lemmas.Slice.Zip.{AllZip-long}
 use Rattle.typing.specs.Contents.{content_of}
-use Rattle.state_certificates.specs.Explained.{IsVerdict, IsExplanation}
+use Rattle.state_certificates.specs.Explained.{IsExplanation}
 use Rattle.formula_text.specs.Answers.{answers_of, dag_of}
 use Rattle.formula_text.specs.Texts.{text_of_answers}
 use Rattle.answer_writer.specs.Lines.{pair_lines, IsPairOf}
-use Rattle.copar_run.specs.Explained.{pairs_of, IsExplained}
+use Rattle.copar_run.specs.Explained.{pairs_of}
 use Rattle.copar_run.proofs.AnswerLaws.{pairs-named, verdicts-there}
 use Rattle.copar_run.proofs.outputs.explained.Goals as goal
 

@@ -1,4 +1,4 @@
-use Rattle.std.proofs.Common.{◌≡◌, ◌+◌, ◌∙◌, ℕ, IsTrue, sym, subst}
+use Rattle.std.proofs.Common.{◌≡◌, IsTrue, sym, subst}
 use Rattle.std.specs.List.{list_all}
 use Rattle.std.proofs.lemmas.Result.{IfOk-weaker}
 use Rattle.typing.specs.Contents.{content_of}
@@ -6,7 +6,7 @@ use Rattle.typing.specs.Values.{states_below}
 use Rattle.structure_writer.specs.Text.{canonical}
 use Rattle.structure_writer.specs.Spelled.{IsWellFormed}
 use Rattle.quotient_writer.specs.Quotient.{IsQuotient}
-use Rattle.copar_run.specs.Minimal.{IsMinimised, IsMinimal}
+use Rattle.copar_run.specs.Minimal.{IsMinimised}
 use Rattle.copar_run.proofs.MinimalLaws.{MinimalityLaws, is_minimal}
 use Rattle.copar_run.proofs.outputs.minimised.Goals as goal
 

@@ -1,4 +1,4 @@
-use Rattle.std.proofs.Common.{◌≡◌, ◌≤◌, ◌*◌, ◌++◌, ℕ, length, drop, arith, ap, sym, ◌∙◌, append-nil, length-drop}
+use Rattle.std.proofs.Common.{◌≤◌, ◌*◌, ◌++◌, length, drop, arith, ap, sym, ◌∙◌, append-nil, length-drop}
 use Rattle.copar_run.proofs.AnswerLaws.{no-pair}
 use Rattle.copar_run.proofs.outputs.pairs_of.Goals as goal
 

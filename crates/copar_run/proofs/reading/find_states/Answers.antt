@@ -1,4 +1,4 @@
-use Rattle.std.proofs.Common.{◌≡◌, ◌∙◌, inr, refl, sym, ap, subst, map, take, ◌+◌, ◌++◌, ◌∷◌, [], Some, None}
+use Rattle.std.proofs.Common.{◌∙◌, inr, refl, sym, ap, subst, map, take, ◌+◌}
 use Rattle.functor_terms.specs.Words.{place_of}
 use Rattle.copar_run.specs.Named.{AreNumbers}
 use Rattle.copar_run.proofs.Finding.{mapped-there, next-number, named-before}

@@ -1,6 +1,5 @@
-use Rattle.std.proofs.Common.{refl, sym, ap, subst, arith, inl, inr, ◌∙◌}
+use Rattle.std.proofs.Common.{inl, inr}
 use Rattle.std.proofs.Common.{⊎_elim}
-use Rattle.copar_run.specs.Outcome.{Ran, counts, met}
 use Rattle.copar_run.proofs.top.answer.Goals as goal
 
 pub returns-clause-ends : goal.returns-clause-ends

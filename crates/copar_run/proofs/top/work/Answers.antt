@@ -1,9 +1,9 @@
-use Rattle.std.proofs.Common.{◌≡◌, [], inr, refl, sym, ap, ◌∙◌, take, subst, arith, true≢false}
+use Rattle.std.proofs.Common.{[], inr, refl, sym, ap, ◌∙◌, take, subst, true≢false}
 use Rattle.std.specs.Io.KnownBytes.{append_known}
 use Rattle.command_line.specs.Asked.{denoted}
 use Rattle.copar_run.specs.declared.status.Status.TheVariants.{WriteFault}
 use Rattle.copar_run.specs.Outcome.{Ends, counts, is_end, met}
-use Rattle.copar_run.specs.Lines.{IsLine, told_line, line_of}
+use Rattle.copar_run.specs.Lines.{IsLine, told_line}
 use Rattle.copar_run.proofs.Projections.{ended}
 use Rattle.copar_run.proofs.Making.{end-halted, end-written, end-failed, halted-line, no-word, rise-of}
 use Rattle.copar_run.proofs.Prefixes.{append_known_none}
