@@ -6,11 +6,11 @@
 What it looks at: each wrong body that a page names is an edit of the crate that the page is about, and
 each edit is named on its crate's page; each label in a table of a crate's page is one of that crate's;
 the map of the README has the crates of crates.txt in their order; what the README shows of a run is
-what the stored run of the program prints, and so are the examples; docs/WORDS.md is what tools/words.py prints.
+what the stored run of the program prints, and so are the examples and what their page shows; each word of
+docs/WORDS.md stands in a file of the crate that its row names, and each file that it names is there.
 """
 import os
 import re
-import subprocess
 import sys
 
 ROOT = os.path.dirname(os.path.dirname(os.path.realpath(__file__)))
@@ -85,12 +85,17 @@ def shown_run():
     readme = text_of("README.md")
     for shown, where in (
             (r"\$ cat examples/vending\.copar\n(.*?)\$ ", ("examples", "vending.copar")),
-            (r"\$ \./copar blocks examples/vending\.copar\n(.*?)\$ ", ("crates", "copar", "stdout")),
-            (r"\$ \./copar minimise examples/vending\.copar\n(.*?)```",
+            (r"\$ \./copar blocks examples/vending\.copar\n(.*?)```", ("crates", "copar", "stdout")),
+            (r"\$ \./copar minimise examples/vending\.copar\n(.*?)\$ ",
              ("examples", "vending.minimised"))):
         found = re.search(shown, readme, re.S)
         if not found or found.group(1) != text_of(*where):
             yield f"README.md: what it shows is not {'/'.join(where)}"
+    stored = text_of("crates", "copar_runs", "stdout")
+    for words, printed in re.findall(r"^\$ \./copar ((?:explain|verify) .*)\n((?:(?!\$ |```).*\n)*)",
+                                     readme, re.M):
+        if f"$ copar {words.replace('examples/', '')}\n{printed}ends with " not in stored:
+            yield f"README.md: not a stored run of crates/copar_runs: {words}"
 
 
 def examples():
@@ -98,7 +103,7 @@ def examples():
     stored = text_of("crates", "copar_runs", "stdout")
     for file in sorted(os.listdir(os.path.join(ROOT, "examples"))):
         name, dot, kind = file.partition(".")
-        if kind == "copar":
+        if kind in ("copar", "answer", "wrong"):
             for crate in ("copar", "copar_runs"):
                 data = os.path.join(ROOT, "crates", crate, "data", file)
                 if os.path.isfile(data) and text_of("crates", crate, "data", file) != text_of(
@@ -109,6 +114,35 @@ def examples():
             shown = f"$ copar {command} {name}.copar\n{text_of('examples', file)}ends with 0\n"
             if shown not in stored:
                 yield f"examples/{file}: not a stored run of crates/copar_runs"
+    page = text_of("examples", "README.md")
+    for command, printed in re.findall(r"^(\$ copar .*)\n((?:(?!\$ |```).*\n)*)", page, re.M):
+        if f"{command}\n{printed}ends with " not in stored:
+            yield f"examples/README.md: not a stored run of crates/copar_runs: {command}"
+
+
+def words(names):
+    """Each word of the page of words stands in its crate, and each file of definitions is there."""
+    for cells in rows(text_of("docs", "WORDS.md")):
+        if cells[0] == "In the field":
+            continue
+        text = ""
+        for place in cells[2].split(";"):
+            crate, *files = [part.strip() for part in place.split(",")]
+            if crate not in names:
+                yield f"docs/WORDS.md: no crate {crate}"
+                continue
+            for kind in ("specs", "src"):
+                folder = os.path.join(ROOT, "crates", crate, kind)
+                for file in sorted(os.listdir(folder)) if os.path.isdir(folder) else []:
+                    if file.endswith((".antt", ".rt")):
+                        text += text_of("crates", crate, kind, file)
+            for file in files:
+                if not file.startswith("`") and not os.path.isfile(
+                        os.path.join(ROOT, "crates", crate, "specs", file + ".antt")):
+                    yield f"docs/WORDS.md: no file {file} of {crate}"
+        for word in re.findall(r"`([A-Za-z_0-9]+)`", cells[1]):
+            if not re.search(rf"\b{word}\b", text):
+                yield f"docs/WORDS.md: no word `{word}` in {cells[2]}"
 
 
 def findings():
@@ -124,10 +158,7 @@ def findings():
         yield "README.md: the map has not the crates of crates.txt in their order"
     yield from shown_run()
     yield from examples()
-    printed = subprocess.run([sys.executable, os.path.join(ROOT, "tools", "words.py")],
-                             capture_output=True, text=True, check=True).stdout
-    if printed != text_of("docs", "WORDS.md"):
-        yield "docs/WORDS.md: not what tools/words.py prints"
+    yield from words(names)
 
 
 if __name__ == "__main__":

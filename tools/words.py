@@ -1,7 +1,7 @@
 #!/usr/bin/env python3
-"""Prints docs/WORDS.md: every public word of every `specs/` file, with the sentence above it.
+"""Prints every public word of every `specs/` file, with the sentence above it.
 
-    tools/words.py > docs/WORDS.md
+    tools/words.py
 
 The layers and their order are those of crates.txt. Lemmas that stand in `specs/` have no sentence
 and are left out.
@@ -11,10 +11,10 @@ import re
 
 ROOT = os.path.dirname(os.path.dirname(os.path.realpath(__file__)))
 WORD = re.compile(r"^ {0,2}(?:(?:abbrev|unfoldable) pub|pub (?:record|data)|pub) ([\w◌×≡-]+)")
-HEAD = """# Words
+HEAD = """# All words
 
 Every public word of every `specs/` file in one line, `word == meaning`, grouped by layer and file. The
-meaning is the sentence that stands above the word in its file. `tools/words.py` prints this page.
+meaning is the sentence that stands above the word in its file.
 """
 
 
