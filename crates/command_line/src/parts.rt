@@ -27,7 +27,7 @@ const COMMANDS: &str = "Commands, each with an example:
         copar blocks doors.txt
   minimise FILE                    the file with one state for each block
         copar minimise doors.txt
-  explain FILE STATE STATE ...     why the states of each pair differ, if they do
+  explain FILE STATE STATE ...     why the two states of each pair differ
         copar explain doors.txt open shut
   certify FILE                     the blocks, each with a formula that says why
         copar certify doors.txt
@@ -35,8 +35,8 @@ const COMMANDS: &str = "Commands, each with an example:
         copar check doors.txt answer.txt open shut
   verify FILE ANSWER               whether the blocks and formulas are right
         copar verify doors.txt answer.txt
-  trial KIND SEED SIZE             the counts of a drawn system: kind lts, chain,
-                                   sums or dfa, with 1 to 200000 states
+  trial KIND SEED SIZE             the counts of a drawn system of the kind lts,
+                                   chain, sums or dfa, with 1 to 200000 states
         copar trial lts 7 20000
 
 The first line of a file is a functor, and each other line is a state: its name,

@@ -12,18 +12,21 @@ const FORMS: &str = "usage: copar blocks FILE [--stats]
        copar check FILE FORMULAS STATE..
        copar verify FILE ANSWER
        copar trial KIND SEED SIZE
-  The file has a functor on its first line, and then a line for each state: its name, a colon,
-  and its structure. Sets of states, as below, have the functor `P X`.
-  blocks    prints for each state its name and the name of the first state that is equivalent
-            to it
-  minimise  prints the file with one state for each block, named by its first state
-  explain   prints for each pair of states that they are equivalent, or a formula that holds at
-            the first and fails at the second
+  The file has a functor on its first line, and then a line for each state: its
+  name, a colon, and its structure. Sets of states, as below, have the functor
+  `P X`.
+  blocks    prints for each state its name and the name of the first state that
+            is equivalent to it
+  minimise  prints the file with one state for each block, named by its first
+            state
+  explain   prints for each pair of states that they are equivalent, or a
+            formula that holds at the first and fails at the second
   certify   prints each block with a formula that holds at exactly its states
-  check     prints whether each formula of a second file holds at each of the states
+  check     prints whether each formula of a second file holds at each of the
+            states
   verify    prints whether the blocks and formulas of a second file are right
-  trial     draws a system of 1 to 200000 states from a seed below 2^64, and prints its counts;
-            the kind is lts, chain, sums or dfa
+  trial     draws a system of 1 to 200000 states from a seed below 2^64, and
+            prints its counts; the kind is lts, chain, sums or dfa
   --stats   adds a line with the numbers of structures, edges and steps
   A name that begins with `-` stands behind the word `--`.
 example: where the file doors.txt has these lines,
