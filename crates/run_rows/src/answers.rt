@@ -323,6 +323,18 @@ fn explains(
 }
 
 #[test]
+fn what_is_said_of_four_states_is_right(rt: HostRuntime) -> Result<(), Fail> {
+    let alloc = rt.alloc();
+    explains(&rt, alloc, FOUR, "a", "c")?;
+    explains(&rt, alloc, FOUR, "a", "d")?;
+    let answer = run_on(alloc, &["certify", "F"], FOUR, b"")?;
+    let seen = run_on(alloc, &["verify", "F", "G"], FOUR, answer.out.bytes())?;
+    assert_eq!(rt; seen.status, Status::Done);
+    assert_eq!(rt; seen.out.bytes(), b"right\n".as_slice());
+    Ok(())
+}
+
+#[test]
 fn what_is_certified_is_right(rt: HostRuntime) -> Result<(), Fail> {
     let alloc = rt.alloc();
     let mut seed = 11u64;
