@@ -8,6 +8,8 @@ mod families;
 #[cfg(test)]
 mod generated;
 #[cfg(test)]
+mod hostile;
+#[cfg(test)]
 mod tables;
 #[cfg(test)]
 mod tests;

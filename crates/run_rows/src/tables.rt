@@ -99,7 +99,7 @@ const DIFFER: &[u8] = b"2 x Z^(X)\na: (0, {b: 1, c: -1})\nb: (1, {})\nc: (0, {})
 const CANCEL: &[u8] = b"2 x Z^(X)\na: (0, {b: 1, c: -1, a: 1, d: -1})\nb: (1, {})\n\
     c: (1, {})\nd: (0, {})\n";
 
-const DRINKS: &[u8] = b"# a drinks machine\r\nP({coin, tea} x D X)\r\n\r\n\
+pub(crate) const DRINKS: &[u8] = b"# a drinks machine\r\nP({coin, tea} x D X)\r\n\r\n\
     idle: {(coin, {ready: 9/10, idle: 1/10})}\r\nready: {(tea, {served: 1})}\r\n\
     served: {(coin, {ready2: 0.9, idle2: 0.1})}\r\nidle2: {(coin, {ready: 0.9, served: 0.1})}\r\n\
     ready2: {(tea, {idle: 0.5, idle2: 0.5})}\r\nbroken: {}\r\n";
