@@ -627,8 +627,8 @@ pub(crate) const COMPLAINTS: &[(&[&str], &[u8])] = &[
     ),
     (
         &["trial", "nfa", "1", "1"],
-        b"copar: a trial has a kind (lts, chain, sums or dfa), a seed below 2^64 and a size from 1 to \
-        200000\n",
+        b"copar: a trial has a kind (lts, chain, sums or dfa), a seed below 2^64 and a size \
+        from 1 to 200000\n",
     ),
     (&["--version"], b"copar 0.1.0\n"),
     (&["-V"], b"copar 0.1.0\n"),
