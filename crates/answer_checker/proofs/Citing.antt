@@ -50,7 +50,8 @@ pub citing_sorted :
 citing_sorted formulas n found sorted moved are =
     record {
       each =
-          All-permutation (λ (c : Citation). slice_get formulas c.line ≡ Some c.formula) found sorted
+          All-permutation (λ (c : Citation). slice_get formulas c.line ≡ Some c.formula) found
+          sorted
           moved are.each;
       all = λ k f h at.
           Contains-permutation found sorted (citation_of f k) moved (are.all k f h at);

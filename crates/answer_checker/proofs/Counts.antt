@@ -29,7 +29,8 @@ uncounted (s ∷ ss) i h = by (s == i) h (uncounted ss i)
     by false h later = let none = later h in omega arith
 
 -- a state that is counted is one that the line has
-pub has_counted : (line : BlockLine) (i : ℕ) → 0 < times_among line.states i → has_state line i ≡ true
+pub has_counted : (line : BlockLine) (i : ℕ) → 0 < times_among line.states i
+    → has_state line i ≡ true
 has_counted line i some = by (has_state line i) refl
   where
     by : (o : Bool) → has_state line i ≡ o → o ≡ true
@@ -70,7 +71,8 @@ line_of-has (line ∷ lines) d i some = by (has_state line i) refl (line_of-has 
   where
     by : (o : Bool) → has_state line i ≡ o →
         (0 < times_in lines i →
-        (line_of lines i < length lines) × (has_state (get_or lines (line_of lines i) d) i ≡ true)) →
+        (line_of lines i < length lines) × (has_state (get_or lines (line_of lines i) d) i ≡ true))
+        →
         ((if o then 0 else suc (line_of lines i)) < suc (length lines))
         × (has_state (get_or (line ∷ lines) (if o then 0 else suc (line_of lines i)) d) i ≡ true)
     by true is later = (omega arith, is)

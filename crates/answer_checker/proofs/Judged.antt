@@ -50,7 +50,8 @@ seen_below names n (b ∷ blocks) all zero line at =
     subst (λ (l : BlockLine). l.formula < n) (same_Some (block_line names (block_seen b)) line at)
     (All-head (λ (b : TheBlockLine). b.formula < n) b blocks all)
 seen_below names n (b ∷ blocks) all (suc k) line at =
-    seen_below names n blocks (All-tail (λ (b : TheBlockLine). b.formula < n) b blocks all) k line at
+    seen_below names n blocks (All-tail (λ (b : TheBlockLine). b.formula < n) b blocks all) k line
+    at
 
 -- there are as many
 pub seen_count :
@@ -64,7 +65,8 @@ module _ (n : ℕ) (lines : List BlockLine) (once : StandOnce n lines) where
   pub number_below : (x : ℕ) → x < n → slice_index (line_numbers lines n) x < length lines
   number_below x h =
       let some : 0 < times_in lines x = omega (arith, once x h) in
-      subst (λ k. k < length lines) (sym (number_is lines n x h)) (line_of-has lines no_line x some).0
+      subst (λ k. k < length lines) (sym (number_is lines n x h)) (line_of-has lines no_line x
+      some).0
 
   -- a line has the states that have its number
   has_number :

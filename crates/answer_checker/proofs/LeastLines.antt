@@ -186,4 +186,5 @@ unfit_seen c t answers lines blocks a b o is same same' ea eb eo =
     eb ∙ ap (least_of_blocks c.names) (ap (map block_seen) same' ∙ is.blocks) in
     unfit_lines c answers
     ∙ sym (eo ∙ ap (λ x. lesser x b) formulas
-    ∙ ap (lesser (least_of_formulas c.term (formulas_of answers) (lines_of_formulas answers))) others)
+    ∙ ap (lesser (least_of_formulas c.term (formulas_of answers) (lines_of_formulas answers)))
+    others)

@@ -30,7 +30,8 @@ module _ (places : List Place) (i : ℕ) (below : i < length places) (lines : Li
 
   -- the first state that stands more than once
   pub is_twice :
-      get_or places i Nowhere ≡ Again → StandOnce i lines → IsNotOnce (length places) lines (Twice i)
+      get_or places i Nowhere ≡ Again → StandOnce i lines
+      → IsNotOnce (length places) lines (Twice i)
   is_twice at once =
       let more : 1 < times_in lines i = stands Again at in
       (record { state = below; not_once = λ e. omega (arith, e, more); once_before = once }, more)

@@ -110,7 +110,8 @@ module _ (lines : List BlockLine) (f : ℕ) (ss : List ℕ) (s : ℕ) where
       (places : List Place) → length places ≤ s → ArePlaces old_lines places →
       ArePlaces new_lines places
   put_none places past are i h =
-      place_still i (get_or places i Nowhere) (ne_eqb s i (λ e. omega (arith, e, past, h))) (are i h)
+      place_still i (get_or places i Nowhere) (ne_eqb s i (λ e. omega (arith, e, past, h)))
+      (are i h)
 
 -- a line begins with no state
 pub line_begun :
@@ -127,7 +128,8 @@ map-take_more g xs i d h =
 
 -- what is made of what is made
 pub map-map :
-    {A B C : Type 0} (f : B → C) (g : A → B) (xs : List A) → map f (map g xs) ≡ map (λ x. f (g x)) xs
+    {A B C : Type 0} (f : B → C) (g : A → B) (xs : List A)
+    → map f (map g xs) ≡ map (λ x. f (g x)) xs
 map-map f g [] = refl
 map-map f g (x ∷ xs) = ap (λ ys. f (g x) ∷ ys) (map-map f g xs)
 
@@ -139,23 +141,24 @@ written_back n new items count same =
     ap (λ xs. take n (new ++ xs)) (drop_all (length new) items (omega (arith, same)))
     ∙ ap (take n) (append-nil new) ∙ take_all n new (omega (arith, count, same))
 
-module _ (names : List (List ℕ)) (blocks : List TheBlockLine) (i : ℕ) (below : i < length blocks) where
-  -- so many lines are seen
-  pub lines_seen-count : length (lines_seen names (take i blocks)) ≡ i
-  lines_seen-count =
-      length-map (map block_seen (take i blocks)) (block_line names)
-      ∙ length-map (take i blocks) block_seen ∙ length-take-le i blocks (omega (arith, below))
+module _ (names : List (List ℕ)) (blocks : List TheBlockLine) (i : ℕ) (below : i < length blocks)
+  where
+    -- so many lines are seen
+    pub lines_seen-count : length (lines_seen names (take i blocks)) ≡ i
+    lines_seen-count =
+        length-map (map block_seen (take i blocks)) (block_line names)
+        ∙ length-map (take i blocks) block_seen ∙ length-take-le i blocks (omega (arith, below))
 
-  -- the lines with one more
-  pub lines_seen-more :
-      (b : TheBlockLine) → get_or blocks i b ≡ b →
-      lines_seen names (take (i + 1) blocks)
-      ≡ lines_seen names (take i blocks)
-      ++ line_with b.formula (map (λ word. number_of names word.now) b.names.items) ∷ []
-  lines_seen-more b at =
-      ap (lines_seen names) (take_more blocks i b below)
-      ∙ ap (λ x. lines_seen names (take i blocks ++ x ∷ [])) at
-      ∙ ap (map (block_line names)) (map-append block_seen (take i blocks) (b ∷ []))
-      ∙ map-append (block_line names) (map block_seen (take i blocks)) (block_seen b ∷ [])
-      ∙ ap (λ ss. lines_seen names (take i blocks) ++ line_with b.formula ss ∷ [])
-      (map-map (number_of names) (λ name. name.now) b.names.items)
+    -- the lines with one more
+    pub lines_seen-more :
+        (b : TheBlockLine) → get_or blocks i b ≡ b →
+        lines_seen names (take (i + 1) blocks)
+        ≡ lines_seen names (take i blocks)
+        ++ line_with b.formula (map (λ word. number_of names word.now) b.names.items) ∷ []
+    lines_seen-more b at =
+        ap (lines_seen names) (take_more blocks i b below)
+        ∙ ap (λ x. lines_seen names (take i blocks ++ x ∷ [])) at
+        ∙ ap (map (block_line names)) (map-append block_seen (take i blocks) (b ∷ []))
+        ∙ map-append (block_line names) (map block_seen (take i blocks)) (block_seen b ∷ [])
+        ∙ ap (λ ss. lines_seen names (take i blocks) ++ line_with b.formula ss ∷ [])
+        (map-map (number_of names) (λ name. name.now) b.names.items)

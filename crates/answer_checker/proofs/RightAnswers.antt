@@ -67,7 +67,8 @@ module _ (c : Content) (term : IsTerm c.term) (within : AreInRange c.values) (da
   -- the line of a state
   its_line :
       (i : ℕ) → i < length c.values →
-      (line_of lines i < length lines) × (has_state (get_or lines (line_of lines i) no_line) i ≡ true)
+      (line_of lines i < length lines) × (has_state (get_or lines (line_of lines i) no_line) i
+      ≡ true)
   its_line i h = line_of-has lines no_line i (omega (arith, passes.once i h))
 
   only_line :
@@ -75,7 +76,8 @@ module _ (c : Content) (term : IsTerm c.term) (within : AreInRange c.values) (da
       has_state (get_or lines k no_line) i ≡ true → line_of lines i ≡ k
   only_line k i hk hi has =
       let is = its_line i hi in
-      one_line lines (line_of lines i) k no_line i (omega (arith, passes.once i hi)) is.0 hk is.1 has
+      one_line lines (line_of lines i) k no_line i (omega (arith, passes.once i hi)) is.0 hk is.1
+      has
 
   together :
       (i j : ℕ) → i < length c.values → j < length c.values → ShareLine lines i j →
@@ -91,7 +93,8 @@ module _ (c : Content) (term : IsTerm c.term) (within : AreInRange c.values) (da
         line_numbers lines (length c.values),
         firsts_stable c.term c.values (line_numbers lines (length c.values))
             (numbers_count lines (length c.values)) passes.like_firsts,
-        number_is lines (length c.values) i hi ∙ same ∙ sym (number_is lines (length c.values) j hj),
+        number_is lines (length c.values) i hi ∙ same
+            ∙ sym (number_is lines (length c.values) j hj),
       )
 
   apart :

@@ -59,7 +59,8 @@ block_cites k [] = tt
 block_cites k (f ∷ []) = tt
 block_cites k (f ∷ name ∷ names) = by (list_all is_word (name ∷ names))
   where
-    found : (o : Option ℕ) → cited k f ≡ o → CitesBlock k (option_map (λ i. Block i (name ∷ names)) o)
+    found : (o : Option ℕ) → cited k f ≡ o
+        → CitesBlock k (option_map (λ i. Block i (name ∷ names)) o)
     found None e = tt
     found (Some i) e = cited_below k f i e
 
@@ -94,7 +95,8 @@ equivalent_cites k (x ∷ y ∷ []) = by (is_word x && is_word y)
     by true = tt
     by false = tt
 
-defined_cites : (k : ℕ) (name : List ℕ) (parts : List (List ℕ)) → CitesBlock k (defined_by k name parts)
+defined_cites : (k : ℕ) (name : List ℕ) (parts : List (List ℕ))
+    → CitesBlock k (defined_by k name parts)
 defined_cites k name [] = tt
 defined_cites k name (sign ∷ body) = by (is_same name (formula_name k) && is_same sign (codes "="))
   where
@@ -122,7 +124,8 @@ answer_cites k (w ∷ rest) =
     by false false false = defined_cites k w rest
 
 -- the same where lines of pairs are taken or not
-taken_cites : (k : ℕ) (pairs : Bool) (o : Option Answer) → CitesBlock k o → CitesBlock k (taken pairs o)
+taken_cites : (k : ℕ) (pairs : Bool) (o : Option Answer) → CitesBlock k o
+    → CitesBlock k (taken pairs o)
 taken_cites k pairs None h = tt
 taken_cites k pairs (Some a) h = by (pairs || tells_no_pair a)
   where
@@ -172,7 +175,8 @@ sound_with n k line a (Err bad) answers e h ih = cc
 sound_line :
     (n k line : ℕ) (read : Answer → Result (List (ℕ × Answer)) ℕ) (o : Option Answer)
     (answers : List (ℕ × Answer)) → answered line read o ≡ Ok answers → CitesBlock k o →
-    ((a : Answer) (more : List (ℕ × Answer)) → read a ≡ Ok more → AreSound n (count_with k a) more) →
+    ((a : Answer) (more : List (ℕ × Answer)) → read a ≡ Ok more → AreSound n (count_with k a) more)
+    →
     AreSound (suc n) k answers
 sound_line n k line read None answers e h ih = cc
 sound_line n k line read (Some a) answers e h ih =

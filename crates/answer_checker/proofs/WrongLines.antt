@@ -143,7 +143,8 @@ later_formula items found i j d e same up less h =
 -- what is said of the formula that was evaluated last
 pub truth_moved :
     (P : (ℕ → ℕ → Bool) → ℕ → Type 0) (content other : Content) (dag more : List Formula)
-    (next f : ℕ) → content ≡ other → dag ≡ more → next ≡ f + 1 → P (holds_at content dag) (next - 1) →
+    (next f : ℕ) → content ≡ other → dag ≡ more → next ≡ f + 1 → P (holds_at content dag) (next - 1)
+    →
     P (holds_at other more) f
 truth_moved P content other dag more next f ec ed en p =
     let last : next - 1 ≡ f = omega (arith, en) in

@@ -280,7 +280,8 @@ plain-walk a f (r ∷ n ∷ rest) p =
       walks-more _ _ _ a (f ∷ r ∷ n ∷ rest) (turn-action a one.0) (walk-action a one.0)
           (walks-more _ _ _ f (r ∷ n ∷ rest) (turn-file a f two.0) (walk-file a f two.0)
           (walks-more _ _ _ r (n ∷ rest) (turn-first a f r three.0) (walk-first a f r three.0)
-          (walks-more _ _ _ n rest (turn-second a f r n four.0) (walk-second a f r n four.0) walks))),
+          (walks-more _ _ _ n rest (turn-second a f r n four.0) (walk-second a f r n four.0)
+          walks))),
       subst (Ends (in_rest a f us l) a f) same (ends-more a f us l),
     )
 

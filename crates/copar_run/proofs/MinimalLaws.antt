@@ -97,7 +97,8 @@ module _ (c : Content) (output : List ℕ) (made : IsMinimised c output) (is : I
     same : SameFractions made.least e
     same = back e read
 
-    fit : IsTrue (list_all (fits e.term 0) e.values) × IsTrue (list_all (is_normal e.term 0) e.values)
+    fit : IsTrue (list_all (fits e.term 0) e.values) × IsTrue (list_all (is_normal e.term 0)
+        e.values)
     fit = forms-fit e.denominator e.term read.fitted e.values read.values
 
     -- no two states of what is read are equivalent

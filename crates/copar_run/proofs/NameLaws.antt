@@ -8,24 +8,30 @@ use Rattle.quotient_writer.specs.Blocks.{name_of}
 use Rattle.copar_run.specs.Blocks.{AreBlocks, PrintsEquivalence}
 
 -- what holds of all names holds of the name of a state
-each_name : (P : List ℕ → Type 0) (names : List (List ℕ)) → AllByRecursion P names → (i : ℕ) → i < length names → P (name_of names i)
+each_name : (P : List ℕ → Type 0) (names : List (List ℕ)) → AllByRecursion P names → (i : ℕ)
+    → i < length names → P (name_of names i)
 each_name P [] all i h = absurd (omega (arith, h))
 each_name P (name ∷ names) all zero h = all.0
 each_name P (name ∷ names) all (suc i) h = each_name P names all.1 i (omega (arith, h))
 
 -- a name is not the name of a later state
-not_later : (name : List ℕ) (names : List (List ℕ)) (i : ℕ) → AllByRecursion (λ other. is_same_word name other ≡ false) names
+not_later : (name : List ℕ) (names : List (List ℕ)) (i : ℕ)
+    → AllByRecursion (λ other. is_same_word name other ≡ false) names
     → i < length names → name ≡ name_of names i → ⊥
 not_later name names i all h e =
-    true≢false (sym (nat_list_eq_equiv.refl name) ∙ ap (is_same_word name) e ∙ each_name (λ other. is_same_word name other ≡ false) names all i h)
+    true≢false (sym (nat_list_eq_equiv.refl name) ∙ ap (is_same_word name) e
+    ∙ each_name (λ other. is_same_word name other ≡ false) names all i h)
 
 -- states with one name are one
-one_name : (names : List (List ℕ)) → IsDistinct is_same_word names → (i j : ℕ) → i < length names → j < length names → name_of names i ≡ name_of names j → i ≡ j
+one_name : (names : List (List ℕ)) → IsDistinct is_same_word names → (i j : ℕ) → i < length names
+    → j < length names → name_of names i ≡ name_of names j → i ≡ j
 unfolding IsDistinct
 one_name [] distinct i j hi hj e = absurd (omega (arith, hi))
 one_name (name ∷ names) distinct zero zero hi hj e = refl
-one_name (name ∷ names) distinct zero (suc j) hi hj e = absurd (not_later name names j distinct.0 (omega (arith, hj)) e)
-one_name (name ∷ names) distinct (suc i) zero hi hj e = absurd (not_later name names i distinct.0 (omega (arith, hi)) (sym e))
+one_name (name ∷ names) distinct zero (suc j) hi hj e = absurd (not_later name names j distinct.0
+    (omega (arith, hj)) e)
+one_name (name ∷ names) distinct (suc i) zero hi hj e = absurd (not_later name names i distinct.0
+    (omega (arith, hi)) (sym e))
 one_name (name ∷ names) distinct (suc i) (suc j) hi hj e =
     ap (λ k. suc k) (one_name names distinct.1 i j (omega (arith, hi)) (omega (arith, hj)) e)
 

@@ -20,7 +20,8 @@ abbrev pub TookFront : Option (List ℕ) → Option (List ℕ) → List ℕ → 
 TookFront old new text = (n : ℕ) × (new ≡ append_known old (take n text))
 
 -- all of one text was taken, and then a front of the next
-pub front_then : (old mid new : Option (List ℕ)) (text rest : List ℕ) → mid ≡ append_known old text → TookFront mid new rest → TookFront old new (text ++ rest)
+pub front_then : (old mid new : Option (List ℕ)) (text rest : List ℕ) → mid ≡ append_known old text
+    → TookFront mid new rest → TookFront old new (text ++ rest)
 front_then old mid new text rest e f = (
   length text + f.0,
   f.1 ∙ ap (λ m. append_known m (take f.0 rest)) e ∙ append_known_twice old text (take f.0 rest)
@@ -28,13 +29,17 @@ front_then old mid new text rest e f = (
 )
 
 -- a front of one text is a front of that text and more
-pub front_of : (old new : Option (List ℕ)) (text rest : List ℕ) → TookFront old new text → TookFront old new (text ++ rest)
+pub front_of : (old new : Option (List ℕ)) (text rest : List ℕ) → TookFront old new text
+    → TookFront old new (text ++ rest)
 front_of old new text rest f =
     let within : min f.0 (length text) ≤ length text = omega arith in (
       min f.0 (length text),
-      f.1 ∙ ap (append_known old) (sym (take-append-le (min f.0 (length text)) text rest within ∙ take_min f.0 text)),
+      f.1 ∙ ap (append_known old) (sym (take-append-le (min f.0 (length text)) text rest within
+          ∙ take_min f.0 text)),
     )
 
 -- the whole of two texts
-pub whole_then : (old mid new : Option (List ℕ)) (text rest : List ℕ) → mid ≡ append_known old text → new ≡ append_known mid rest → new ≡ append_known old (text ++ rest)
-whole_then old mid new text rest e f = f ∙ ap (λ m. append_known m rest) e ∙ append_known_twice old text rest
+pub whole_then : (old mid new : Option (List ℕ)) (text rest : List ℕ) → mid ≡ append_known old text
+    → new ≡ append_known mid rest → new ≡ append_known old (text ++ rest)
+whole_then old mid new text rest e f = f ∙ ap (λ m. append_known m rest) e
+    ∙ append_known_twice old text rest

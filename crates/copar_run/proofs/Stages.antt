@@ -48,8 +48,10 @@ same_stranger : (names words : List (List ℕ)) (j k : ℕ) → IsStranger names
 same_stranger names words j k a b = elim (cases_order k j) [
   | inl same ↦ same
   | inr apart ↦ elim apart [
-    | inl below ↦ absurd (nowhere (place_of b.word names) (a.first k b.word below b.there) b.strange)
-    | inr above ↦ absurd (nowhere (place_of a.word names) (b.first j a.word above a.there) a.strange)
+    | inl below ↦ absurd (nowhere (place_of b.word names) (a.first k b.word below b.there)
+        b.strange)
+    | inr above ↦ absurd (nowhere (place_of a.word names) (b.first j a.word above a.there)
+        a.strange)
   ]
 ]
 

@@ -74,7 +74,12 @@ first-among : (lines : List BlockLine) (n y : ℕ) → y < n
 first-among lines n y below =
     let count : length (line_numbers lines n) ≡ n =
     length-map (range_with_len 0 n) _ ∙ length-range_with_len 0 n in
-    omega (arith, below, first-before (line_numbers lines n) y (subst (λ m. y < m) (sym count) below))
+    omega (
+      arith,
+      below,
+      first-before (line_numbers lines n) y (subst (λ m. y < m) (sym count)
+          below),
+    )
 
 -- the states of a reason are states of the coalgebra
 pub reason-states : (c : Content) (bytes : List ℕ) (reason : Reason)

@@ -15,7 +15,8 @@ use Rattle.desorting.specs.Numbered.{AreBlocks}
 later_test : (a b : ℕ) → b < a → (a == b) ≡ false
 later_test a b h = grind (arith, nat_tests)
 
-at_last : {X : Type 0} (xs : List X) (x z : X) → slice_get (xs ++ x ∷ []) (length xs) ≡ Some z → x ≡ z
+at_last : {X : Type 0} (xs : List X) (x z : X) → slice_get (xs ++ x ∷ []) (length xs) ≡ Some z
+    → x ≡ z
 at_last [] x z e = some_first x z e
 at_last (y ∷ ys) x z e = at_last ys x z e
 

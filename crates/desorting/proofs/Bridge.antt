@@ -34,12 +34,18 @@ use Rattle.layers.specs.Nest.{AnyShape, AnyLabel, add, any_node, any_agree, any_
 use Rattle.desorting.specs.Shapes.{shape_of, labels_of}
 
 -- structures that agree on one side have one node
-sides_node : {A B L M : Type 0} (f : Classed A L → Classed A L → Type 0) (g : Classed B M → Classed B M → Type 0) (m : A → ℕ) (n : B → ℕ)
-    → ((x y : Classed A L) → f x y → m x.shape ≡ m y.shape) → ((x y : Classed B M) → g x y → n x.shape ≡ n y.shape)
-    → (x y : Classed (Side A B) (Side L M)) → agree_of_sides f g x y → node_of_side m n x.shape ≡ node_of_side m n y.shape
-sides_node {A = A} {B = B} {L = L} {M = M} f g m n left right x y h = by x.shape x.labels x.classes y.shape y.labels y.classes h
+sides_node : {A B L M : Type 0} (f : Classed A L → Classed A L → Type 0) (g : Classed B M
+    → Classed B M → Type 0) (m : A → ℕ) (n : B → ℕ)
+    → ((x y : Classed A L) → f x y → m x.shape ≡ m y.shape) → ((x y : Classed B M) → g x y
+    → n x.shape ≡ n y.shape)
+    → (x y : Classed (Side A B) (Side L M)) → agree_of_sides f g x y
+    → node_of_side m n x.shape ≡ node_of_side m n y.shape
+sides_node {A = A} {B = B} {L = L} {M = M} f g m n left right x y h = by x.shape x.labels x.classes
+    y.shape y.labels y.classes h
   where
-    by : (s : Side A B) (ls : List (Side L M)) (cs : List ℕ) (u : Side A B) (ms : List (Side L M)) (ds : List ℕ) → agree_of_sides f g (record { shape = s; labels = ls; classes = cs }) (record { shape = u; labels = ms; classes = ds }) → node_of_side m n s ≡ node_of_side m n u
+    by : (s : Side A B) (ls : List (Side L M)) (cs : List ℕ) (u : Side A B) (ms : List (Side L M))
+        (ds : List ℕ) → agree_of_sides f g (record { shape = s; labels = ls; classes = cs })
+        (record { shape = u; labels = ms; classes = ds }) → node_of_side m n s ≡ node_of_side m n u
     by (Left a) ls cs (Left b) ms ds h = left _ _ h
     by (Left a) ls cs (Right b) ms ds h = absurd h
     by (Right a) ls cs (Left b) ms ds h = absurd h
@@ -48,7 +54,8 @@ sides_node {A = A} {B = B} {L = L} {M = M} f g m n left right x y h = by x.shape
 set_node : (x y : Classed SetShape (Unit {0})) → agree_of_sets x y → x.shape.node ≡ y.shape.node
 set_node x y h = h.0
 
-group_node : (x y : Classed GroupShape ℤ) → agree_of_groups (pos 0) add x y → x.shape.node ≡ y.shape.node
+group_node : (x y : Classed GroupShape ℤ) → agree_of_groups (pos 0) add x y
+    → x.shape.node ≡ y.shape.node
 group_node x y h = h.0
 
 dist_node : (x y : Classed DistShape ℤ) → agree_of_dists x y → x.shape.node ≡ y.shape.node
@@ -57,7 +64,8 @@ dist_node x y h = h.0
 form_node : (x y : Classed PolyShape ℕ) → agree_of_forms x y → x.shape.node ≡ y.shape.node
 form_node x y h = h.0
 
-pub one_node : (x y : Classed AnyShape AnyLabel) → any_agree x y → any_node x.shape ≡ any_node y.shape
+pub one_node : (x y : Classed AnyShape AnyLabel) → any_agree x y
+    → any_node x.shape ≡ any_node y.shape
 one_node =
     sides_node agree_of_sets _ _ _ set_node
     (sides_node (agree_of_groups (pos 0) add) _ _ _ group_node
@@ -86,7 +94,12 @@ abbrev weight : Value × ℤ → ℤ
 weight e = e.1
 
 abbrev pub structure : Node → ℕ → Value → List ℕ → Classed AnyShape AnyLabel
-structure m p v cs = record { shape = shape_of m p v (length cs); labels = labels_of m v (length cs); classes = cs }
+structure m p v cs = record {
+  shape = shape_of m p v (length cs);
+  labels = labels_of m v
+      (length cs);
+  classes = cs;
+}
 
 none_left : (cs : List ℕ) → length cs ≡ 0 → cs ≡ []
 none_left [] h = refl
@@ -98,17 +111,26 @@ labels_equal a b e = cc
 tags_equal : (a b : ℕ) → ◌≡◌ {A = Form} (form.Tagged a) (form.Tagged b) → a ≡ b
 tags_equal a b e = cc
 
-sums_to : (us ws : List (Value × ℤ)) (cs ds : List ℕ) (ls ms : List ℤ) → ls ≡ weights us → ms ≡ weights ws
-    → ((k : ℕ) → sum_if (pos 0) add (λ c. c == k) ls cs ≡ sum_if (pos 0) add (λ c. c == k) ms ds) → (k : ℕ) → sum_if (pos 0) add (λ c. c == k) (weights us) cs ≡ sum_if (pos 0) add (λ c. c == k) (weights ws) ds
-sums_to us ws cs ds ls ms l m h k = sym (ap (λ x. sum_if (pos 0) add (λ c. c == k) x cs) l) ∙ h k ∙ ap (λ x. sum_if (pos 0) add (λ c. c == k) x ds) m
+sums_to : (us ws : List (Value × ℤ)) (cs ds : List ℕ) (ls ms : List ℤ) → ls ≡ weights us
+    → ms ≡ weights ws
+    → ((k : ℕ) → sum_if (pos 0) add (λ c. c == k) ls cs ≡ sum_if (pos 0) add (λ c. c == k) ms ds)
+    → (k : ℕ) → sum_if (pos 0) add (λ c. c == k) (weights us) cs ≡ sum_if (pos 0) add
+    (λ c. c == k) (weights ws) ds
+sums_to us ws cs ds ls ms l m h k = sym (ap (λ x. sum_if (pos 0) add (λ c. c == k) x cs) l) ∙ h k
+    ∙ ap (λ x. sum_if (pos 0) add (λ c. c == k) x ds) m
 
-sums_from : (us ws : List (Value × ℤ)) (cs ds : List ℕ) (ls ms : List ℤ) → ls ≡ weights us → ms ≡ weights ws
-    → ((k : ℕ) → sum_if (pos 0) add (λ c. c == k) (weights us) cs ≡ sum_if (pos 0) add (λ c. c == k) (weights ws) ds) → (k : ℕ) → sum_if (pos 0) add (λ c. c == k) ls cs ≡ sum_if (pos 0) add (λ c. c == k) ms ds
-sums_from us ws cs ds ls ms l m h k = ap (λ x. sum_if (pos 0) add (λ c. c == k) x cs) l ∙ h k ∙ sym (ap (λ x. sum_if (pos 0) add (λ c. c == k) x ds) m)
+sums_from : (us ws : List (Value × ℤ)) (cs ds : List ℕ) (ls ms : List ℤ) → ls ≡ weights us
+    → ms ≡ weights ws
+    → ((k : ℕ) → sum_if (pos 0) add (λ c. c == k) (weights us) cs ≡ sum_if (pos 0) add (λ c. c == k)
+    (weights ws) ds) → (k : ℕ) → sum_if (pos 0) add (λ c. c == k) ls cs ≡ sum_if (pos 0) add
+    (λ c. c == k) ms ds
+sums_from us ws cs ds ls ms l m h k = ap (λ x. sum_if (pos 0) add (λ c. c == k) x cs) l ∙ h k
+    ∙ sym (ap (λ x. sum_if (pos 0) add (λ c. c == k) x ds) m)
 
 module _ (qs : List ℕ) (p : ℕ) (v w : Value) (cs ds : List ℕ) where
   -- agreement by the interface is agreement of the values
-  pub agree_to : (m : Node) → any_agree (structure m p v cs) (structure m p w ds) → AgreeAt m v w cs ds
+  pub agree_to : (m : Node) → any_agree (structure m p v cs) (structure m p w ds)
+      → AgreeAt m v w cs ds
   agree_to State h = h.2
   agree_to (Constant labels) h = labels_equal (label v) (label w) h.1
   agree_to Naturals h = labels_equal (label v) (label w) h.1
@@ -116,23 +138,55 @@ module _ (qs : List ℕ) (p : ℕ) (v w : Value) (cs ds : List ℕ) where
   agree_to Sum h = (tags_equal (index v) (index w) h.1, h.2)
   agree_to (Power labels) h = h.2
   agree_to Powerset h = h.1
-  agree_to Bag h = sums_to (entries v) (entries w) cs ds _ _ (bag_labels weight (entries v)) (bag_labels weight (entries w)) h.1
-  agree_to Integers h = sums_to (entries v) (entries w) cs ds _ _ (whole_labels weight (entries v)) (whole_labels weight (entries w)) h.1
-  agree_to Distribution h = sums_to (entries v) (entries w) cs ds _ _ (dist_labels weight (entries v)) (dist_labels weight (entries w)) h.1
-  agree_to Rationals h = sums_to (entries v) (entries w) cs ds _ _ (scaled_labels weight (entries v)) (scaled_labels weight (entries w)) h.1
+  agree_to Bag h = sums_to (entries v) (entries w) cs ds _ _ (bag_labels weight (entries v))
+      (bag_labels weight (entries w)) h.1
+  agree_to Integers h = sums_to (entries v) (entries w) cs ds _ _ (whole_labels weight (entries v))
+      (whole_labels weight (entries w)) h.1
+  agree_to Distribution h = sums_to (entries v) (entries w) cs ds _ _
+      (dist_labels weight (entries v)) (dist_labels weight (entries w)) h.1
+  agree_to Rationals h = sums_to (entries v) (entries w) cs ds _ _
+      (scaled_labels weight (entries v)) (scaled_labels weight (entries w)) h.1
 
-  pub agree_from : (m : Node) → length cs ≡ length (child_places m qs p v) → length ds ≡ length (child_places m qs p w) → AgreeAt m v w cs ds → any_agree (structure m p v cs) (structure m p w ds)
+  pub agree_from : (m : Node) → length cs ≡ length (child_places m qs p v)
+      → length ds ≡ length (child_places m qs p w) → AgreeAt m v w cs ds
+      → any_agree (structure m p v cs) (structure m p w ds)
   agree_from State x y h = (refl, refl, h)
-  agree_from (Constant labels) x y h = (refl, ap (λ n. form.Constant n) h, none_left cs x ∙ sym (none_left ds y))
-  agree_from Naturals x y h = (refl, ap (λ n. form.Constant n) h, none_left cs x ∙ sym (none_left ds y))
+  agree_from (Constant labels) x y h = (
+    refl,
+    ap (λ n. form.Constant n) h,
+    none_left cs x
+        ∙ sym (none_left ds y),
+  )
+  agree_from Naturals x y h = (
+    refl,
+    ap (λ n. form.Constant n) h,
+    none_left cs x
+        ∙ sym (none_left ds y),
+  )
   agree_from Product x y h = (refl, ap (λ l. form.Places (length l)) h, h)
   agree_from Sum x y h = (refl, ap (λ n. form.Tagged n) h.0, h.1)
   agree_from (Power labels) x y h = (refl, ap (λ l. form.Places (length l)) h, h)
   agree_from Powerset x y h = (refl, h)
-  agree_from Bag x y h = (refl, sums_from (entries v) (entries w) cs ds _ _ (bag_labels weight (entries v)) (bag_labels weight (entries w)) h)
-  agree_from Integers x y h = (refl, sums_from (entries v) (entries w) cs ds _ _ (whole_labels weight (entries v)) (whole_labels weight (entries w)) h)
-  agree_from Distribution x y h = (refl, sums_from (entries v) (entries w) cs ds _ _ (dist_labels weight (entries v)) (dist_labels weight (entries w)) h)
-  agree_from Rationals x y h = (refl, sums_from (entries v) (entries w) cs ds _ _ (scaled_labels weight (entries v)) (scaled_labels weight (entries w)) h)
+  agree_from Bag x y h = (
+    refl,
+    sums_from (entries v) (entries w) cs ds _ _
+        (bag_labels weight (entries v)) (bag_labels weight (entries w)) h,
+  )
+  agree_from Integers x y h = (
+    refl,
+    sums_from (entries v) (entries w) cs ds _ _
+        (whole_labels weight (entries v)) (whole_labels weight (entries w)) h,
+  )
+  agree_from Distribution x y h = (
+    refl,
+    sums_from (entries v) (entries w) cs ds _ _
+        (dist_labels weight (entries v)) (dist_labels weight (entries w)) h,
+  )
+  agree_from Rationals x y h = (
+    refl,
+    sums_from (entries v) (entries w) cs ds _ _
+        (scaled_labels weight (entries v)) (scaled_labels weight (entries w)) h,
+  )
 
 -- the value by the interface is the value of the layer
 first_is : (g : List ℕ) → first_trit g ≡ slice_index g 0
@@ -143,7 +197,8 @@ has_is : (k : ℕ) (g : List ℕ) → has k g ≡ list_any (λ x. x == k) g
 has_is k [] = refl
 has_is k (x ∷ g) = ap (λ b. x == k || b) (has_is k g)
 
-bits_are : (a b c : Bool) → cond a 1 0 + cond b 2 0 + cond c 4 0 ≡ (if a then 1 else 0) + 2 * (if b then 1 else 0) + 4 * (if c then 1 else 0)
+bits_are : (a b c : Bool) → cond a 1 0 + cond b 2 0 + cond c 4 0 ≡ (if a then 1 else 0)
+    + 2 * (if b then 1 else 0) + 4 * (if c then 1 else 0)
 bits_are true true true = refl
 bits_are true true false = refl
 bits_are true false true = refl
@@ -181,7 +236,8 @@ triple_is m d es ls g e =
     λ k. ap (λ l. sum_if (pos 0) add (λ c. c == k) l g) e ∙ sum_is m k es g in
     λ i. triple (lowest_terms (at 0 i) d) (lowest_terms (at 1 i) d) (lowest_terms (at 2 i) d)
 
-pub value_is : (d : ℕ) (m : Node) (p : ℕ) (v : Value) (k : ℕ) (g : List ℕ) → any_value d (shape_of m p v k) (labels_of m v k) g ≡ layer_value d m v g
+pub value_is : (d : ℕ) (m : Node) (p : ℕ) (v : Value) (k : ℕ) (g : List ℕ)
+    → any_value d (shape_of m p v k) (labels_of m v k) g ≡ layer_value d m v g
 value_is d State p v k g = ap (λ n. value.Trit n) (first_is g)
 value_is d (Constant labels) p v k g = refl
 value_is d Naturals p v k g = refl
@@ -189,8 +245,12 @@ value_is d Product p v k g = refl
 value_is d Sum p v k g = ap (λ n. value.Tagged (index v) n) (first_is g)
 value_is d (Power labels) p v k g = refl
 value_is d Powerset p v k g =
-    ap (λ n. value.Members n) (bits_are (has 0 g) (has 1 g) (has 2 g) ∙ (λ i. (if has_is 0 g i then 1 else 0) + 2 * (if has_is 1 g i then 1 else 0) + 4 * (if has_is 2 g i then 1 else 0)))
+    ap (λ n. value.Members n) (bits_are (has 0 g) (has 1 g) (has 2 g)
+    ∙ (λ i. (if has_is 0 g i then 1 else 0) + 2 * (if has_is 1 g i then 1 else 0)
+    + 4 * (if has_is 2 g i then 1 else 0)))
 value_is d Bag p v k g = triple_is Bag 1 (entries v) _ g (bag_labels weight (entries v))
 value_is d Integers p v k g = triple_is Integers 1 (entries v) _ g (whole_labels weight (entries v))
-value_is d Rationals p v k g = triple_is Rationals d (entries v) _ g (scaled_labels weight (entries v))
-value_is d Distribution p v k g = triple_is Distribution d (entries v) _ g (dist_labels weight (entries v))
+value_is d Rationals p v k g = triple_is Rationals d (entries v) _ g
+    (scaled_labels weight (entries v))
+value_is d Distribution p v k g = triple_is Distribution d (entries v) _ g
+    (dist_labels weight (entries v))

@@ -21,7 +21,8 @@ use Rattle.desorting.specs.Numbered.{IsLabelled, AreNumbered}
 use Rattle.desorting.proofs.Both.{zip_length}
 use Rattle.desorting.proofs.Decodes.{IsEdged, system_read, system_fits}
 
-few_chosen : {X : Type 0} (k : ℕ) (keys : List ℕ) (xs : List X) → length (chosen k keys xs) ≤ length xs
+few_chosen : {X : Type 0} (k : ℕ) (keys : List ℕ) (xs : List X)
+    → length (chosen k keys xs) ≤ length xs
 few_chosen k [] xs = omega arith
 few_chosen k (key ∷ keys) [] = omega arith
 few_chosen k (key ∷ keys) (x ∷ xs) = by (key == k) (few_chosen k keys xs)

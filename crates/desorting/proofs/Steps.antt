@@ -28,7 +28,9 @@ module _ (R : Place → ℕ → Type 0) (b : List ℕ) (E : ℕ → Test) where
   at_node q us = map (λ u. (q, u)) us
 
   -- products
-  pub product-equal : (qs : List ℕ) (us ws : List Value) (cs : List ℕ) → ((q : ℕ) → Contains qs q → ClassesEqual q) → AllZip R (zip qs us) cs → AllZip R (zip qs ws) cs
+  pub product-equal : (qs : List ℕ) (us ws : List Value) (cs : List ℕ)
+      → ((q : ℕ) → Contains qs q → ClassesEqual q) → AllZip R (zip qs us) cs
+      → AllZip R (zip qs ws) cs
       → each_place (map E qs) (map (relabelled b) us) (map (relabelled b) ws) ≡ true
   product-equal [] us ws cs h x y = refl
   product-equal (q ∷ qs) [] [] cs h x y = refl
@@ -38,9 +40,12 @@ module _ (R : Place → ℕ → Type 0) (b : List ℕ) (E : ℕ → Test) where
   product-equal (q ∷ qs) (u ∷ us) [] (c ∷ cs) h x y = absurd y
   product-equal (q ∷ qs) (u ∷ us) (w ∷ ws) [] h x y = absurd x
   product-equal (q ∷ qs) (u ∷ us) (w ∷ ws) (c ∷ cs) h x y =
-      and_from (equal_at q u w) (each_place (map E qs) (map (relabelled b) us) (map (relabelled b) ws)) (h q (first_in q qs) u w c x.0 y.0) (product-equal qs us ws cs (λ r k. h r (rest_in q qs r k)) x.1 y.1)
+      and_from (equal_at q u w) (each_place (map E qs) (map (relabelled b) us)
+      (map (relabelled b) ws)) (h q (first_in q qs) u w c x.0 y.0)
+      (product-equal qs us ws cs (λ r k. h r (rest_in q qs r k)) x.1 y.1)
 
-  pub product-agree : (qs : List ℕ) (us ws : List Value) (cs ds : List ℕ) → ((q : ℕ) → Contains qs q → EqualsMeet q) → AllZip R (zip qs us) cs → AllZip R (zip qs ws) ds
+  pub product-agree : (qs : List ℕ) (us ws : List Value) (cs ds : List ℕ)
+      → ((q : ℕ) → Contains qs q → EqualsMeet q) → AllZip R (zip qs us) cs → AllZip R (zip qs ws) ds
       → each_place (map E qs) (map (relabelled b) us) (map (relabelled b) ws) ≡ true → cs ≡ ds
   product-agree [] us ws [] [] h x y e = refl
   product-agree [] us ws [] (d ∷ ds) h x y e = absurd y
@@ -53,21 +58,29 @@ module _ (R : Place → ℕ → Type 0) (b : List ℕ) (E : ℕ → Test) where
   product-agree (q ∷ qs) (u ∷ us) (w ∷ ws) [] ds h x y e = absurd x
   product-agree (q ∷ qs) (u ∷ us) (w ∷ ws) (c ∷ cs) [] h x y e = absurd y
   product-agree (q ∷ qs) (u ∷ us) (w ∷ ws) (c ∷ cs) (d ∷ ds) h x y e =
-      let p = and_parts (equal_at q u w) (each_place (map E qs) (map (relabelled b) us) (map (relabelled b) ws)) e in
-      λ i. h q (first_in q qs) u w c d x.0 y.0 p.0 i ∷ product-agree qs us ws cs ds (λ r k. h r (rest_in q qs r k)) x.1 y.1 p.1 i
+      let p = and_parts (equal_at q u w) (each_place (map E qs) (map (relabelled b) us)
+      (map (relabelled b) ws)) e in
+      λ i. h q (first_in q qs) u w c d x.0 y.0 p.0 i ∷ product-agree qs us ws cs ds
+      (λ r k. h r (rest_in q qs r k)) x.1 y.1 p.1 i
 
   module _ (q : ℕ) where
     -- powers
-    pub power-equal : (us ws : List Value) (cs : List ℕ) → ClassesEqual q → AllZip R (at_node q us) cs → AllZip R (at_node q ws) cs → pointwise (E q) (map (relabelled b) us) (map (relabelled b) ws) ≡ true
+    pub power-equal : (us ws : List Value) (cs : List ℕ) → ClassesEqual q
+        → AllZip R (at_node q us) cs → AllZip R (at_node q ws) cs
+        → pointwise (E q) (map (relabelled b) us) (map (relabelled b) ws) ≡ true
     power-equal [] [] cs h x y = refl
     power-equal [] (w ∷ ws) [] h x y = absurd y
     power-equal [] (w ∷ ws) (c ∷ cs) h x y = absurd x
     power-equal (u ∷ us) [] [] h x y = absurd x
     power-equal (u ∷ us) [] (c ∷ cs) h x y = absurd y
     power-equal (u ∷ us) (w ∷ ws) [] h x y = absurd x
-    power-equal (u ∷ us) (w ∷ ws) (c ∷ cs) h x y = and_from (equal_at q u w) (pointwise (E q) (map (relabelled b) us) (map (relabelled b) ws)) (h u w c x.0 y.0) (power-equal us ws cs h x.1 y.1)
+    power-equal (u ∷ us) (w ∷ ws) (c ∷ cs) h x y = and_from (equal_at q u w)
+        (pointwise (E q) (map (relabelled b) us) (map (relabelled b) ws)) (h u w c x.0 y.0)
+        (power-equal us ws cs h x.1 y.1)
 
-    pub power-agree : (us ws : List Value) (cs ds : List ℕ) → EqualsMeet q → AllZip R (at_node q us) cs → AllZip R (at_node q ws) ds → pointwise (E q) (map (relabelled b) us) (map (relabelled b) ws) ≡ true → cs ≡ ds
+    pub power-agree : (us ws : List Value) (cs ds : List ℕ) → EqualsMeet q
+        → AllZip R (at_node q us) cs → AllZip R (at_node q ws) ds
+        → pointwise (E q) (map (relabelled b) us) (map (relabelled b) ws) ≡ true → cs ≡ ds
     power-agree [] [] [] [] h x y e = refl
     power-agree [] [] [] (d ∷ ds) h x y e = absurd y
     power-agree [] [] (c ∷ cs) ds h x y e = absurd x
@@ -76,7 +89,8 @@ module _ (R : Place → ℕ → Type 0) (b : List ℕ) (E : ℕ → Test) where
     power-agree (u ∷ us) (w ∷ ws) [] ds h x y e = absurd x
     power-agree (u ∷ us) (w ∷ ws) (c ∷ cs) [] h x y e = absurd y
     power-agree (u ∷ us) (w ∷ ws) (c ∷ cs) (d ∷ ds) h x y e =
-        let p = and_parts (equal_at q u w) (pointwise (E q) (map (relabelled b) us) (map (relabelled b) ws)) e in
+        let p = and_parts (equal_at q u w) (pointwise (E q) (map (relabelled b) us)
+        (map (relabelled b) ws)) e in
         λ i. h u w c d x.0 y.0 p.0 i ∷ power-agree us ws cs ds h x.1 y.1 p.1 i
 
     -- sets
@@ -88,31 +102,45 @@ module _ (R : Place → ℕ → Type 0) (b : List ℕ) (E : ℕ → Test) where
     or_right false y h = h
 
     -- a class that occurs has an equal element
-    met : (ws : List Value) (ds : List ℕ) (u : Value) (c : ℕ) → ClassesEqual q → AllZip R (at_node q ws) ds → R (q, u) c → has_class c ds ≡ true → has (E q) (map (relabelled b) ws) (relabelled b u) ≡ true
+    met : (ws : List Value) (ds : List ℕ) (u : Value) (c : ℕ) → ClassesEqual q
+        → AllZip R (at_node q ws) ds → R (q, u) c → has_class c ds ≡ true
+        → has (E q) (map (relabelled b) ws) (relabelled b u) ≡ true
     met [] [] u c h y r e = absurd (true≢false (sym e))
     met [] (d ∷ ds) u c h y r e = absurd y
     met (w ∷ ws) [] u c h y r e = absurd y
     met (w ∷ ws) (d ∷ ds) u c h y r e =
-        ⊎_elim (λ here. or_left (equal_at q w u) (has (E q) (map (relabelled b) ws) (relabelled b u)) (h w u c (subst (λ k. R (q, w) k) (eqb-true d c here) y.0) r))
-        (λ later. or_right (equal_at q w u) (has (E q) (map (relabelled b) ws) (relabelled b u)) (met ws ds u c h y.1 r later))
+        ⊎_elim (λ here. or_left (equal_at q w u) (has (E q) (map (relabelled b) ws)
+        (relabelled b u)) (h w u c (subst (λ k. R (q, w) k) (eqb-true d c here) y.0) r))
+        (λ later. or_right (equal_at q w u) (has (E q) (map (relabelled b) ws) (relabelled b u))
+        (met ws ds u c h y.1 r later))
         (or_cases (d == c) (has_class c ds) e)
 
-    pub covered-equal : (us ws : List Value) (cs ds : List ℕ) → ClassesEqual q → AllZip R (at_node q us) cs → AllZip R (at_node q ws) ds → ((c : ℕ) → has_class c cs ≡ true → has_class c ds ≡ true)
+    pub covered-equal : (us ws : List Value) (cs ds : List ℕ) → ClassesEqual q
+        → AllZip R (at_node q us) cs → AllZip R (at_node q ws) ds → ((c : ℕ) → has_class c cs ≡ true
+        → has_class c ds ≡ true)
         → list_all (has (E q) (map (relabelled b) ws)) (map (relabelled b) us) ≡ true
     covered-equal [] ws cs ds h x y e = refl
     covered-equal (u ∷ us) ws [] ds h x y e = absurd x
     covered-equal (u ∷ us) ws (c ∷ cs) ds h x y e =
-        and_from (has (E q) (map (relabelled b) ws) (relabelled b u)) (list_all (has (E q) (map (relabelled b) ws)) (map (relabelled b) us))
+        and_from (has (E q) (map (relabelled b) ws) (relabelled b u))
+        (list_all (has (E q) (map (relabelled b) ws)) (map (relabelled b) us))
         (met ws ds u c h y x.0 (e c (or_left (c == c) (has_class c cs) (eq-eqb c c refl))))
-        (covered-equal us ws cs ds h x.1 y (λ k later. e k (or_right (c == k) (has_class k cs) later)))
+        (covered-equal us ws cs ds h x.1 y
+        (λ k later. e k (or_right (c == k) (has_class k cs) later)))
 
-    pub members-equal : (us ws : List Value) (cs ds : List ℕ) → ClassesEqual q → AllZip R (at_node q us) cs → AllZip R (at_node q ws) ds → SameSet cs ds → same_members (E q) (map (relabelled b) us) (map (relabelled b) ws) ≡ true
+    pub members-equal : (us ws : List Value) (cs ds : List ℕ) → ClassesEqual q
+        → AllZip R (at_node q us) cs → AllZip R (at_node q ws) ds → SameSet cs ds
+        → same_members (E q) (map (relabelled b) us) (map (relabelled b) ws) ≡ true
     members-equal us ws cs ds h x y same =
-        and_from (list_all (has (E q) (map (relabelled b) ws)) (map (relabelled b) us)) (list_all (has (E q) (map (relabelled b) us)) (map (relabelled b) ws))
-        (covered-equal us ws cs ds h x y (λ c e. sym (same c) ∙ e)) (covered-equal ws us ds cs h y x (λ c e. same c ∙ e))
+        and_from (list_all (has (E q) (map (relabelled b) ws)) (map (relabelled b) us))
+        (list_all (has (E q) (map (relabelled b) us)) (map (relabelled b) ws))
+        (covered-equal us ws cs ds h x y (λ c e. sym (same c) ∙ e)) (covered-equal ws us ds cs h y x
+        (λ c e. same c ∙ e))
 
     -- an equal element has its class
-    class_met : (ws : List Value) (ds : List ℕ) (u : Value) (c : ℕ) → EqualsMeet q → AllZip R (at_node q ws) ds → R (q, u) c → has (E q) (map (relabelled b) ws) (relabelled b u) ≡ true → has_class c ds ≡ true
+    class_met : (ws : List Value) (ds : List ℕ) (u : Value) (c : ℕ) → EqualsMeet q
+        → AllZip R (at_node q ws) ds → R (q, u) c
+        → has (E q) (map (relabelled b) ws) (relabelled b u) ≡ true → has_class c ds ≡ true
     class_met [] [] u c h y r e = absurd (true≢false (sym e))
     class_met [] (d ∷ ds) u c h y r e = absurd y
     class_met (w ∷ ws) [] u c h y r e = absurd y
@@ -121,21 +149,30 @@ module _ (R : Place → ℕ → Type 0) (b : List ℕ) (E : ℕ → Test) where
         (λ later. or_right (d == c) (has_class c ds) (class_met ws ds u c h y.1 r later))
         (or_cases (equal_at q w u) (has (E q) (map (relabelled b) ws) (relabelled b u)) e)
 
-    covered-agree : (us ws : List Value) (cs ds : List ℕ) (c : ℕ) → EqualsMeet q → AllZip R (at_node q us) cs → AllZip R (at_node q ws) ds → list_all (has (E q) (map (relabelled b) ws)) (map (relabelled b) us) ≡ true
+    covered-agree : (us ws : List Value) (cs ds : List ℕ) (c : ℕ) → EqualsMeet q
+        → AllZip R (at_node q us) cs → AllZip R (at_node q ws) ds
+        → list_all (has (E q) (map (relabelled b) ws)) (map (relabelled b) us) ≡ true
         → has_class c cs ≡ true → has_class c ds ≡ true
     covered-agree [] ws [] ds c h x y e k = absurd (true≢false (sym k))
     covered-agree [] ws (d ∷ cs) ds c h x y e k = absurd x
     covered-agree (u ∷ us) ws [] ds c h x y e k = absurd x
     covered-agree (u ∷ us) ws (d ∷ cs) ds c h x y e k =
-        let p = and_parts (has (E q) (map (relabelled b) ws) (relabelled b u)) (list_all (has (E q) (map (relabelled b) ws)) (map (relabelled b) us)) e in
-        ⊎_elim (λ here. subst (λ n. has_class n ds ≡ true) (eqb-true d c here) (class_met ws ds u d h y x.0 p.0)) (λ later. covered-agree us ws cs ds c h x.1 y p.1 later) (or_cases (d == c) (has_class c cs) k)
+        let p = and_parts (has (E q) (map (relabelled b) ws) (relabelled b u))
+        (list_all (has (E q) (map (relabelled b) ws)) (map (relabelled b) us)) e in
+        ⊎_elim (λ here. subst (λ n. has_class n ds ≡ true) (eqb-true d c here)
+        (class_met ws ds u d h y x.0 p.0)) (λ later. covered-agree us ws cs ds c h x.1 y p.1
+        later) (or_cases (d == c) (has_class c cs) k)
 
     bools_agree : (x y : Bool) → (x ≡ true → y ≡ true) → (y ≡ true → x ≡ true) → x ≡ y
     bools_agree true y f g = sym (f refl)
     bools_agree false true f g = g refl
     bools_agree false false f g = refl
 
-    pub members-agree : (us ws : List Value) (cs ds : List ℕ) → EqualsMeet q → AllZip R (at_node q us) cs → AllZip R (at_node q ws) ds → same_members (E q) (map (relabelled b) us) (map (relabelled b) ws) ≡ true → SameSet cs ds
+    pub members-agree : (us ws : List Value) (cs ds : List ℕ) → EqualsMeet q
+        → AllZip R (at_node q us) cs → AllZip R (at_node q ws) ds
+        → same_members (E q) (map (relabelled b) us) (map (relabelled b) ws) ≡ true → SameSet cs ds
     members-agree us ws cs ds h x y e c =
-        let p = and_parts (list_all (has (E q) (map (relabelled b) ws)) (map (relabelled b) us)) (list_all (has (E q) (map (relabelled b) us)) (map (relabelled b) ws)) e in
-        bools_agree (has_class c cs) (has_class c ds) (covered-agree us ws cs ds c h x y p.0) (covered-agree ws us ds cs c h y x p.1)
+        let p = and_parts (list_all (has (E q) (map (relabelled b) ws)) (map (relabelled b) us))
+        (list_all (has (E q) (map (relabelled b) us)) (map (relabelled b) ws)) e in
+        bools_agree (has_class c cs) (has_class c ds) (covered-agree us ws cs ds c h x y p.0)
+        (covered-agree ws us ds cs c h y x p.1)

@@ -29,7 +29,8 @@ use Rattle.desorting.proofs.Counts.{labels_count}
 use Rattle.desorting.proofs.Weighed.{weights_within}
 use Rattle.desorting.proofs.Both.{mapped_at, zip_length}
 
-module _ (qs : List ℕ) (p : ℕ) (v : Value) (k : ℕ) (small : size_of (λ (x : ℤ). x) (map (λ e. e.1) (entries v)) ≤ 2 ^ 106) where
+module _ (qs : List ℕ) (p : ℕ) (v : Value) (k : ℕ) (small : size_of (λ (x : ℤ). x)
+    (map (λ e. e.1) (entries v)) ≤ 2 ^ 106) where
   abbrev weight : Value × ℤ → ℤ
   weight e = e.1
 
@@ -54,7 +55,8 @@ module _ (qs : List ℕ) (p : ℕ) (v : Value) (k : ℕ) (small : size_of (λ (x
   shape_fits Distribution f fit h = dist_fit weight (entries v) few small
   shape_fits Rationals f fit h = scaled_fit weight (entries v) few small
 
-kin_alike : (m : Node) (p : ℕ) (u v : Value) (j k : ℕ) → any_kin (shape_of m p u j) (shape_of m p v k)
+kin_alike : (m : Node) (p : ℕ) (u v : Value) (j k : ℕ)
+    → any_kin (shape_of m p u j) (shape_of m p v k)
 kin_alike State p u v j k = tt
 kin_alike (Constant labels) p u v j k = tt
 kin_alike Naturals p u v j k = tt
@@ -67,8 +69,10 @@ kin_alike Distribution p u v j k = tt
 kin_alike Integers p u v j k = tt
 kin_alike Rationals p u v j k = tt
 
-module _ (t : Nodes) (values : List Value) (system : List Occurrence) (roots : List ℕ) (is_term : IsTerm t) (sorting : IsSorting t values system roots) where
-  small : (x : ℕ) (o : Occurrence) → slice_get system x ≡ Some o → size_of (λ (x : ℤ). x) (map (λ e. e.1) (entries o.value)) ≤ 2 ^ 106
+module _ (t : Nodes) (values : List Value) (system : List Occurrence) (roots : List ℕ)
+    (is_term : IsTerm t) (sorting : IsSorting t values system roots) where
+  small : (x : ℕ) (o : Occurrence) → slice_get system x ≡ Some o
+      → size_of (λ (x : ℤ). x) (map (λ e. e.1) (entries o.value)) ≤ 2 ^ 106
   small x o at = weights_within (2 ^ 106) o.value (sorting.within x o at)
 
   fits-at :
@@ -86,30 +90,49 @@ module _ (t : Nodes) (values : List Value) (system : List Occurrence) (roots : L
       subst (λ k. k < length system) at_i (get_within system (slice_index roots i) o at_o)
   lead_inside m z y h = get_within system y h.0 h.1
 
-  all_inside : (places : List Place) (targets : List ℕ) → AllZip (λ z y. LeadsBy system roots (node_at t z.0) z y) places targets → (k d : ℕ) → k < length targets → get_or targets k d < length system
+  all_inside : (places : List Place) (targets : List ℕ)
+      → AllZip (λ z y. LeadsBy system roots (node_at t z.0) z y) places targets → (k d : ℕ)
+      → k < length targets → get_or targets k d < length system
   all_inside [] [] h k d l = absurd (omega arith)
   all_inside [] (y ∷ ys) h k d l = absurd h
   all_inside (z ∷ zs) [] h k d l = absurd h
   all_inside (z ∷ zs) (y ∷ ys) h zero d l = lead_inside (node_at t z.0) z y h.0
   all_inside (z ∷ zs) (y ∷ ys) h (suc k) d l = all_inside zs ys h.1 k d (omega arith)
 
-  count : (x : ℕ) (o : Occurrence) → slice_get system x ≡ Some o → length o.targets ≡ length (child_places (node_at t o.node) (children_at t o.node) o.node o.value)
-  count x o e = zip_length _ (child_places (node_at t o.node) (children_at t o.node) o.node o.value) o.targets (linked_children t values system roots sorting x o e)
+  count : (x : ℕ) (o : Occurrence) → slice_get system x ≡ Some o
+      → length o.targets ≡ length (child_places (node_at t o.node) (children_at t o.node) o.node
+      o.value)
+  count x o e = zip_length _ (child_places (node_at t o.node) (children_at t o.node) o.node o.value)
+      o.targets (linked_children t values system roots sorting x o e)
 
   pub sorting_is_system : IsSystem any_node any_kin any_fits (sorted_system t system)
   sorting_is_system = record {
     in_range = λ x a e. let (o, at_o, is_o) = mapped_at (sorted_of t) system x a e in
-        subst (λ (a : Sorted AnyShape AnyLabel). All (λ y. y < length (sorted_system t system)) a.targets) is_o
-        (λ k d l. subst (λ n. get_or o.targets k d < n) (sym (length-map system (sorted_of t))) (all_inside (child_places (node_at t o.node) (children_at t o.node) o.node o.value) o.targets (linked_children t values system roots sorting x o at_o) k d l));
+        subst (λ (a : Sorted AnyShape AnyLabel). All (λ y. y < length (sorted_system t system))
+        a.targets) is_o
+        (λ k d l. subst (λ n. get_or o.targets k d < n) (sym (length-map system (sorted_of t)))
+        (all_inside (child_places (node_at t o.node) (children_at t o.node) o.node o.value)
+        o.targets (linked_children t values system roots sorting x o at_o) k d l));
     one_each = λ x a e. let (o, at_o, is_o) = mapped_at (sorted_of t) system x a e in
         subst (λ (a : Sorted AnyShape AnyLabel). length a.targets ≡ length a.labels) is_o
-        (count x o at_o ∙ sym (labels_count (node_at t o.node) (children_at t o.node) o.node o.value (has_one t is_term o.node)) ∙ ap (λ n. length (labels_of (node_at t o.node) o.value n)) (sym (count x o at_o)));
+        (count x o at_o ∙ sym (labels_count (node_at t o.node) (children_at t o.node) o.node o.value
+        (has_one t is_term o.node)) ∙ ap (λ n. length (labels_of (node_at t o.node) o.value n))
+        (sym (count x o at_o)));
     fit = λ x a e. let (o, at_o, is_o) = mapped_at (sorted_of t) system x a e in
-        subst (λ (a : Sorted AnyShape AnyLabel). any_fits a.shape a.labels) is_o (shape_fits (children_at t o.node) o.node o.value (length o.targets) (small x o at_o) (node_at t o.node) (fits t) (fits-at x o at_o) (count x o at_o));
+        subst (λ (a : Sorted AnyShape AnyLabel). any_fits a.shape a.labels) is_o
+        (shape_fits (children_at t o.node) o.node o.value (length o.targets) (small x o at_o)
+        (node_at t o.node) (fits t) (fits-at x o at_o) (count x o at_o));
     same_kind = λ x y a b e f same.
         let (o, at_o, is_o) = mapped_at (sorted_of t) system x a e in
         let (p, at_p, is_p) = mapped_at (sorted_of t) system y b f in
-        let one : o.node ≡ p.node = sym (node_is (node_at t o.node) o.node o.value (length o.targets)) ∙ ap (λ (a : Sorted AnyShape AnyLabel). any_node a.shape) is_o ∙ same ∙ sym (ap (λ (a : Sorted AnyShape AnyLabel). any_node a.shape) is_p) ∙ node_is (node_at t p.node) p.node p.value (length p.targets) in
-        subst (λ (a : Sorted AnyShape AnyLabel). any_kin a.shape b.shape) is_o (subst (λ (b : Sorted AnyShape AnyLabel). any_kin (shape_of (node_at t o.node) o.node o.value (length o.targets)) b.shape) is_p
-        (subst (λ r. any_kin (shape_of (node_at t o.node) o.node o.value (length o.targets)) (shape_of (node_at t r) r p.value (length p.targets))) one (kin_alike (node_at t o.node) o.node o.value p.value (length o.targets) (length p.targets))));
+        let one : o.node ≡ p.node = sym (node_is (node_at t o.node) o.node o.value
+        (length o.targets)) ∙ ap (λ (a : Sorted AnyShape AnyLabel). any_node a.shape) is_o
+        ∙ same ∙ sym (ap (λ (a : Sorted AnyShape AnyLabel). any_node a.shape) is_p)
+        ∙ node_is (node_at t p.node) p.node p.value (length p.targets) in
+        subst (λ (a : Sorted AnyShape AnyLabel). any_kin a.shape b.shape) is_o
+        (subst (λ (b : Sorted AnyShape AnyLabel). any_kin (shape_of (node_at t o.node) o.node
+        o.value (length o.targets)) b.shape) is_p
+        (subst (λ r. any_kin (shape_of (node_at t o.node) o.node o.value (length o.targets))
+        (shape_of (node_at t r) r p.value (length p.targets))) one (kin_alike (node_at t o.node)
+        o.node o.value p.value (length o.targets) (length p.targets))));
   }

@@ -117,7 +117,8 @@ module _ (l : ℕ) (t : Nodes) (names : List (List ℕ)) where
       (is_some (place_of r.head before)) e
     where
       by :
-          ((hs : List Fitted) → others r rows before ≡ Ok hs → sum_scaled l t hs ≤ text_length lines) →
+          ((hs : List Fitted) → others r rows before ≡ Ok hs
+          → sum_scaled l t hs ≤ text_length lines) →
           (b : Bool) →
           cond b (Err (r.line, RepeatedState)) (typed_first r.line (fitting t names 0 r.tree)
           (others r rows before))

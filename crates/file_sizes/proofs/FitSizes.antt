@@ -377,7 +377,8 @@ module _ (l : ℕ) (t : Nodes) (names : List (List ℕ)) where
           (map (fold_within no_fit (fit_step names) t n) b.children)) o no_fit)
           (option_map_or (λ b. scaled_step l b.node
           (map (fold_within no_scale (scaled_step l) t n) b.children)) o no_scale)
-          (option_map_or (λ b. size_step 1 b.node (map (size_within 1 t n) b.children)) o (no_size 1))
+          (option_map_or (λ b. size_step 1 b.node (map (size_within 1 t n) b.children)) o
+          (no_size 1))
       by below None = none_small (no_size 1)
       by below (Some b) =
           step_small l names (fold_within no_fit (fit_step names) t n)

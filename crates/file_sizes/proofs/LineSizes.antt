@@ -81,7 +81,8 @@ first_passes q (line ∷ lines) y ys e = by (first_passes q lines y ys) (q line)
     by :
         (filter q lines ≡ y ∷ ys → q y ≡ true) → (b : Bool) → q line ≡ b →
         cond b (line ∷ filter q lines) (filter q lines) ≡ y ∷ ys → q y ≡ true
-    by later true k h = subst (λ (z : Numbered). q z ≡ true) (some_lines line y (filter q lines) ys h) k
+    by later true k h = subst (λ (z : Numbered). q z ≡ true) (some_lines line y (filter q lines) ys
+        h) k
     by later false k h = later h
 
 some_text : (text : List ℕ) → not (is_skipped text) ≡ true → 1 ≤ length text

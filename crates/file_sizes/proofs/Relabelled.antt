@@ -44,7 +44,8 @@ module _ (b : List ℕ) where
     firsts_same (e ∷ es) = ap (λ vs. relabelled b e.0 ∷ vs) (firsts_same es)
 
     weighed_map : (v : Value) → weighed (relabelled b v) ≡ map (relabelled b) (weighed v)
-    weighed_map v = ap (λ (es : List (Value × ℤ)). map (λ (e : Value × ℤ). e.0) es) (entries_map b v) ∙ firsts_same (entries v)
+    weighed_map v = ap (λ (es : List (Value × ℤ)). map (λ (e : Value × ℤ). e.0) es)
+        (entries_map b v) ∙ firsts_same (entries v)
 
     parts_same : (qs : List ℕ) (v : Value) →
         1 + sum_of (size_at (map S qs) 0) (parts (relabelled b v))

@@ -86,14 +86,16 @@ module _ (x : Check) (f : Form) (e : Test) (s : Size) (g : IsLeast x f e s) wher
   kept : (u w : Value) (vs : List Value) → e w u ≡ false → has e vs w ≡ true →
       has e (others e u vs) w ≡ true
   kept u w [] differ h = absurd (true≢false (sym h))
-  kept u w (v ∷ vs) differ h = by (kept u w vs differ) (e v u) refl (or_cases (e v w) (has e vs w) h)
+  kept u w (v ∷ vs) differ h = by (kept u w vs differ) (e v u) refl (or_cases (e v w) (has e vs w)
+      h)
     where
       by :
           (has e vs w ≡ true → has e (others e u vs) w ≡ true) → (b : Bool) → e v u ≡ b →
           (e v w ≡ true) ⊎ (has e vs w ≡ true) →
           has e (cond b (others e u vs) (v ∷ others e u vs)) w ≡ true
       by rest true q k =
-          ⊎_elim (λ (here : e v w ≡ true). absurd (true≢false (sym q ∙ is.congr v w u here ∙ differ)))
+          ⊎_elim (λ (here : e v w ≡ true). absurd (true≢false (sym q ∙ is.congr v w u here
+          ∙ differ)))
           rest k
       by rest false q k =
           ⊎_elim (λ (here : e v w ≡ true). ap (λ b. b || has e (others e u vs) w) here)
@@ -377,7 +379,8 @@ module _ (a : ℕ) (t : Nodes) where
           b.children)) o no_form)
           (option_map_or (λ b. eq_step b.node (map (fold_within no_test eq_step t n)
           b.children)) o no_test)
-          (option_map_or (λ b. size_step a b.node (map (size_within a t n) b.children)) o (no_size a))
+          (option_map_or (λ b. size_step a b.node (map (size_within a t n) b.children)) o
+          (no_size a))
       by least None = none_least (no_size a)
       by least (Some b) =
           step_least (fold_within no_check fits_step t n) (fold_within no_form form_step t n)

@@ -96,7 +96,8 @@ text_more old new done n a is put =
 -- ---- the answers so far, before those of later lines
 
 -- answers before others
-abbrev pub prefixed : List (ℕ × Answer) → Result (List (ℕ × Answer)) ℕ → Result (List (ℕ × Answer)) ℕ
+abbrev pub prefixed : List (ℕ × Answer) → Result (List (ℕ × Answer)) ℕ
+    → Result (List (ℕ × Answer)) ℕ
 prefixed done (Ok answers) = Ok (done ++ answers)
 prefixed done (Err bad) = Err bad
 

@@ -68,41 +68,42 @@ module _ (l : Link) (inside : ℕ → Reads Part) (d : ℕ) (ts : List Sign) whe
         chain-fails e = failed (loop-fails (item_of l inside d) (passes (sign_of l)) is_few _
             (node_limit - length parts) parts left is.kept (node_limit - (length parts + 1)) next e)
 
-        module _ (x : Part) (rest : List Sign) (read : item_of l inside d left ≡ Some (x, rest)) where
-          pub chain-refuses : 256 < nodes + length x.0 → chain_of l inside d ts ≡ None
-          chain-refuses h =
-              failed (loop-refuses (item_of l inside d) (passes (sign_of l)) is_few _
-              (node_limit - length parts) parts left is.kept (node_limit - (length parts + 1))
-              next x rest read (many parts x (let c = is.count in omega (arith, h, c))))
-
-          module _ (fits : nodes + length x.0 ≤ 256) (more : List Part)
-              (pushed : more ≡ parts ++ x ∷ []) where
-            joins : is_few parts x ≡ true
-            joins = few parts x (let c = is.count in omega (arith, fits, c))
-
-            pub chain-ends : behind_sign (passes (sign_of l)) rest ≡ None → (same : List Sign)
-                → same ≡ rest → chain_of l inside d ts ≡ chain_over (node_of l) more same
-            chain-ends ends same e =
-                chain-is l inside d ts
-                ∙ ap (option_and_then (λ p. chain_over (node_of l) p.0 p.1))
-                (loop-ends (item_of l inside d) (passes (sign_of l)) is_few _
+        module _ (x : Part) (rest : List Sign) (read : item_of l inside d left ≡ Some (x, rest))
+          where
+            pub chain-refuses : 256 < nodes + length x.0 → chain_of l inside d ts ≡ None
+            chain-refuses h =
+                failed (loop-refuses (item_of l inside d) (passes (sign_of l)) is_few _
                 (node_limit - length parts) parts left is.kept (node_limit - (length parts + 1))
-                next x rest read joins ends)
-                ∙ (λ i. chain_over (node_of l) (sym pushed i) (sym e i))
+                next x rest read (many parts x (let c = is.count in omega (arith, h, c))))
 
-            pub chain-goes : (others : List Sign)
-                → behind_sign (passes (sign_of l)) rest ≡ Some others
-                → IsChained more others (nodes + length x.0)
-            chain-goes others follows =
-                let count : node_limit - length more ≡ node_limit - (length parts + 1) =
-                omega (arith, ap length pushed, length-append parts (x ∷ [])) in
-                record {
-                  kept = (λ i. items_from (item_of l inside d) (passes (sign_of l)) is_few (count i)
-                      (pushed i) others)
-                      ∙ loop-goes (item_of l inside d) (passes (sign_of l)) is_few _
-                      (node_limit - length parts) parts left is.kept
-                      (node_limit - (length parts + 1)) next x rest read joins others follows;
-                  count = let c = is.count in omega
-                      (arith, c, ap (λ (p : List Part). length (nodes_of p)) pushed, size parts x);
-                  bound = fits;
-                }
+            module _ (fits : nodes + length x.0 ≤ 256) (more : List Part)
+                (pushed : more ≡ parts ++ x ∷ []) where
+              joins : is_few parts x ≡ true
+              joins = few parts x (let c = is.count in omega (arith, fits, c))
+
+              pub chain-ends : behind_sign (passes (sign_of l)) rest ≡ None → (same : List Sign)
+                  → same ≡ rest → chain_of l inside d ts ≡ chain_over (node_of l) more same
+              chain-ends ends same e =
+                  chain-is l inside d ts
+                  ∙ ap (option_and_then (λ p. chain_over (node_of l) p.0 p.1))
+                  (loop-ends (item_of l inside d) (passes (sign_of l)) is_few _
+                  (node_limit - length parts) parts left is.kept (node_limit - (length parts + 1))
+                  next x rest read joins ends)
+                  ∙ (λ i. chain_over (node_of l) (sym pushed i) (sym e i))
+
+              pub chain-goes : (others : List Sign)
+                  → behind_sign (passes (sign_of l)) rest ≡ Some others
+                  → IsChained more others (nodes + length x.0)
+              chain-goes others follows =
+                  let count : node_limit - length more ≡ node_limit - (length parts + 1) =
+                  omega (arith, ap length pushed, length-append parts (x ∷ [])) in
+                  record {
+                    kept = (λ i. items_from (item_of l inside d) (passes (sign_of l)) is_few (count i)
+                        (pushed i) others)
+                        ∙ loop-goes (item_of l inside d) (passes (sign_of l)) is_few _
+                        (node_limit - length parts) parts left is.kept
+                        (node_limit - (length parts + 1)) next x rest read joins others follows;
+                    count = let c = is.count in omega
+                        (arith, c, ap (λ (p : List Part). length (nodes_of p)) pushed, size parts x);
+                    bound = fits;
+                  }

@@ -333,7 +333,8 @@ module _ (node : Node) (goes_on : Sign → Bool) (between : Sign) (test : IsTest
       let (items, behind, read, over_them) = and_then_of (chain_over node)
       (items_from item goes_on is_few node_limit [] ts) x rest e in
       let found = items-sound item goes_on between test is_few (Bounded Spells) sound
-      (λ _. Unit {0}) (λ before x ts kept joined spelled. tt) node_limit [] ts items behind tt read in
+      (λ _. Unit {0}) (λ before x ts kept joined spelled. tt) node_limit [] ts items behind tt
+      read in
       chain-found ts items behind x rest found over_them
 
   few-join : (before more : List Part) → length (nodes_of (before ++ more)) ≤ 256

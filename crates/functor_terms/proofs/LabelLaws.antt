@@ -151,7 +151,8 @@ each_some between Spells ts (x ∷ xs) each = omega arith
 words-sound : IsSound words_at SpellsWords
 unfolding words_at IsDistinct
 words-sound ts words rest e =
-    let found = items-sound word_at is_comma Comma comma_test is_new_name SpellsWord word-sound AreDistinctNames names-push label_limit [] ts words rest (tt, tt) e in
+    let found = items-sound word_at is_comma Comma comma_test is_new_name SpellsWord word-sound
+    AreDistinctNames names-push label_limit [] ts words rest (tt, tt) e in
     let few : length found.more ≤ 65536 = found.count in
     let same : length words ≡ length found.more = ap length found.items_are in
     let some : 0 < length found.more =

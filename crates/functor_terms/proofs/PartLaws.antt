@@ -1,4 +1,5 @@
--- What is spelled is a part: nodes over as many parts as they take, with labels where they need them.
+-- What is spelled is a part: nodes over as many parts as they take, with labels where they need
+-- them.
 use Rattle.std.proofs.Common.{◌≡◌, ℕ, zero, suc, ◌+◌, ◌<◌, ◌≤◌, List, [], ◌∷◌, length, refl, sym, subst, arith, length-append, inl, inr}
 use Rattle.std.specs.Prelude.{IsTrue}
 use Rattle.std.specs.List.{AllByRecursion}

@@ -50,7 +50,8 @@ pub record Good (n : ℕ) (x : Part) : Type 0 where
 abbrev Grouped : ℕ → Part → Type 0
 Grouped n x = (k : ℕ) × (n ≡ suc k) × Good k x
 
--- the part's text spells it, and may stand where no text of a higher level may, perhaps in parentheses
+-- the part's text spells it, and may stand where no text of a higher level may, perhaps in
+-- parentheses
 abbrev Fine : ℕ → ℕ → Part → Type 0
 Fine level n x = Good n x × (((shown_part x).level ≤ level) ⊎ Grouped n x)
 

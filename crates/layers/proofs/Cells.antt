@@ -249,7 +249,8 @@ module _
 module _
     (ws : List ℤ) (k : Class) (s : ℕ) (ls ts : List ℕ) (fit : fits_class ws k ls)
     (one_each : length ts ≡ length ls) (trits : AreTrits ts) (w : PlacesWeight) (moved : List ℕ)
-    (weight_is : opened.Places w ≡ wide_of ws k s ls (in_coarse ts)) (moved_is : moved ≡ picked ls ts)
+    (weight_is : opened.Places w ≡ wide_of ws k s ls (in_coarse ts)) (moved_is : moved ≡ picked ls
+    ts)
   where
     is_form : k ≡ class.Form (form_of k)
     is_form = (places_weight ws k s ls (in_coarse ts) w weight_is).0
@@ -341,7 +342,8 @@ module _
 
     pub marks_count : length w.marks ≡ arity (form_of k)
     marks_count =
-        ap length marks_are ∙ length-map ts (λ t. nat_le 1 t) ∙ one_each ∙ as_many ws k of_many ls fit
+        ap length marks_are ∙ length-map ts (λ t. nat_le 1 t) ∙ one_each
+        ∙ as_many ws k of_many ls fit
 
     pub found_is : trits_from w.marks 0 moved ≡ ts
     found_is =

@@ -22,7 +22,8 @@ use Rattle.layers.specs.declared.weight.Opened.TheVariants as opened
 use Rattle.layers.specs.Meanings.{weight_at, weights_at, fits_class, over, sums_of, value_of_class, wide_of}
 use Rattle.layers.proofs.Cells.{group_of, sums_weight, sums_value, sums_toward, sums_fit, picked-map}
 
-all_true : {A B : Type 0} (f : A → B) (xs : List A) → map (λ _. true) (map f xs) ≡ map (λ _. true) xs
+all_true : {A B : Type 0} (f : A → B) (xs : List A)
+    → map (λ _. true) (map f xs) ≡ map (λ _. true) xs
 all_true f [] = refl
 all_true f (x ∷ xs) = ap (λ ys. true ∷ ys) (all_true f xs)
 
@@ -127,7 +128,8 @@ module _
         ≡ wide_of ws k s ls (in_splitter ts))
         × (three ≡ value_of_class d ws k ls ts)
         × (void ≡ value_of_class d ws k ls (without_splitter ts))
-    sums_updated d n n_is part rest other others part_e rest_e other_e others_e three void three_e void_e =
+    sums_updated d n n_is part rest other others part_e rest_e other_e others_e three void three_e
+        void_e =
         let u = groups.updated same (pos 0) add integers_laws minus integers_undo xs ts trits few
         (group_of w) gone as_group gone_is part rest other others part_e rest_e other_e others_e
         n (pos 0) refl three void three_e void_e (record { node = 0 }) in (

@@ -42,7 +42,8 @@ module _
   SameSums xs cs ys ds = (k : ℕ) → sum_at (λ c. c == k) xs cs ≡ sum_at (λ c. c == k) ys ds
 
   -- a fraction in lowest terms tells its sum
-  told : (a b : E) → lowest_terms (number a) denominator ≡ lowest_terms (number b) denominator → a ≡ b
+  told : (a b : E) → lowest_terms (number a) denominator ≡ lowest_terms (number b) denominator
+      → a ≡ b
   told a b e = laws.told a b (same_from_lowest_terms _ _ denominator positive e)
 
   -- the value tells the sums of 1 and of 2
@@ -111,7 +112,8 @@ module _
       value xs (map (three_way old new) cs) ≡ value ys (map (three_way old new) ds) →
       SameSums xs cs ys ds
   split_law old new xs ys cs ds apart same values k =
-      let told = value_tells xs ys (map (three_way old new) cs) (map (three_way old new) ds) values in
+      let told = value_tells xs ys (map (three_way old new) cs) (map (three_way old new) ds)
+      values in
       elim (eqb_tells k new) [
         | inl is_new ↦
             subst (λ n. sum_at (λ c. c == n) xs cs ≡ sum_at (λ c. c == n) ys ds) (sym is_new.1)

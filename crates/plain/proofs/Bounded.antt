@@ -53,10 +53,12 @@ inner_bounded v h = by (out-Value v) (sym (bounded_out v) ∙ h)
     by (Value-F.Inj k v) e = e
     by (Value-F.Weights es) e = h
 
-pub entries_bounded : (v : Value) → is_bounded v ≡ true → list_all (λ e. is_bounded e.0) (entries v) ≡ true
+pub entries_bounded : (v : Value) → is_bounded v ≡ true → list_all (λ e. is_bounded e.0) (entries v)
+    ≡ true
 entries_bounded v h = by (out-Value v) (sym (bounded_out v) ∙ h)
   where
-    by : (x : Value-F Value) → layer_bounded x ≡ true → list_all (λ e. is_bounded e.0) (entries_in x) ≡ true
+    by : (x : Value-F Value) → layer_bounded x ≡ true
+        → list_all (λ e. is_bounded e.0) (entries_in x) ≡ true
     by (Value-F.Tuple vs) h = refl
     by (Value-F.Set vs) h = refl
     by (Value-F.State i) h = refl
@@ -77,7 +79,8 @@ entries_within v h = by (out-Value v) (sym (bounded_out v) ∙ h)
     by (Value-F.Inj k v) h = omega arith
     by (Value-F.Weights es) h =
         subst (λ k. k ≤ 2 ^ 126) (sum_tested es)
-        (leb-true _ _ (and_parts (all_pass (tested es)) (nat_le (absolute_sum (tested es)) (2 ^ 126)) h).1)
+        (leb-true _ _ (and_parts (all_pass (tested es)) (nat_le (absolute_sum (tested es))
+        (2 ^ 126)) h).1)
 
 -- relabelling keeps every weight
 module _ (b : List ℕ) where
@@ -92,45 +95,57 @@ module _ (b : List ℕ) where
   abbrev without : List (((v : Value) × IsKept v) × ℤ) → List (Value × ℤ)
   without ys = map (λ e. (e.0.0, e.1)) ys
 
-  kept_list : (ys : List ((v : Value) × IsKept v)) → list_all (λ c. c) (map is_bounded (map (relabelled b) (map (λ e. e.0) ys))) ≡ list_all (λ c. c) (map is_bounded (map (λ e. e.0) ys))
+  kept_list : (ys : List ((v : Value) × IsKept v))
+      → list_all (λ c. c) (map is_bounded (map (relabelled b) (map (λ e. e.0) ys)))
+      ≡ list_all (λ c. c) (map is_bounded (map (λ e. e.0) ys))
   kept_list [] = refl
   kept_list (e ∷ ys) = λ i. e.1 i && kept_list ys i
 
-  kept_entries : (ys : List (((v : Value) × IsKept v) × ℤ)) → all_pass (tested (onto (without ys))) ≡ all_pass (tested (without ys))
+  kept_entries : (ys : List (((v : Value) × IsKept v) × ℤ))
+      → all_pass (tested (onto (without ys))) ≡ all_pass (tested (without ys))
   kept_entries [] = refl
   kept_entries (e ∷ ys) = λ i. e.0.1 i && kept_entries ys i
 
   kept_sum : (ws : List (Value × ℤ)) → absolute_sum (tested (onto ws)) ≡ absolute_sum (tested ws)
   kept_sum [] = refl
   kept_sum (w ∷ ws) =
-      sum_by-cons (λ (e : Bool × ℤ). unsigned_abs e.1) (is_bounded (relabelled b w.0), w.1) (tested (onto ws))
+      sum_by-cons (λ (e : Bool × ℤ). unsigned_abs e.1) (is_bounded (relabelled b w.0), w.1)
+      (tested (onto ws))
       ∙ ap (λ n. unsigned_abs w.1 + n) (kept_sum ws)
       ∙ sym (sum_by-cons (λ (e : Bool × ℤ). unsigned_abs e.1) (is_bounded w.0, w.1) (tested ws))
 
-  kept_level : (y : Value-F ((v : Value) × IsKept v)) → layer_bounded (mapped b (map-Value ((v : Value) × IsKept v) Value (λ e. e.0) y)) ≡ layer_bounded (map-Value ((v : Value) × IsKept v) Value (λ e. e.0) y)
+  kept_level : (y : Value-F ((v : Value) × IsKept v))
+      → layer_bounded (mapped b (map-Value ((v : Value) × IsKept v) Value (λ e. e.0) y))
+      ≡ layer_bounded (map-Value ((v : Value) × IsKept v) Value (λ e. e.0) y)
   kept_level (Value-F.State i) = refl
   kept_level (Value-F.Label k) = refl
   kept_level (Value-F.Tuple ys) = kept_list ys
   kept_level (Value-F.Inj k e) = e.1
   kept_level (Value-F.Set ys) = kept_list ys
-  kept_level (Value-F.Weights ys) = λ i. kept_entries ys i && nat_le (kept_sum (without ys) i) (2 ^ 126)
+  kept_level (Value-F.Weights ys) = λ i. kept_entries ys i && nat_le (kept_sum (without ys) i)
+      (2 ^ 126)
 
   pub bounded_kept : (v : Value) → is_bounded (relabelled b v) ≡ is_bounded v
   bounded_kept = ind-Value IsKept (λ x y is.
       bounded_out (relabelled b (roll-Value x))
       ∙ ap layer_bounded (out_map b (roll-Value x) ∙ ap (mapped b) (out-roll-Value x))
-      ∙ subst (λ (z : Value-F Value). layer_bounded (mapped b z) ≡ layer_bounded z) is (kept_level y)
+      ∙ subst (λ (z : Value-F Value). layer_bounded (mapped b z) ≡ layer_bounded z) is
+      (kept_level y)
       ∙ sym (bounded_out (roll-Value x) ∙ ap layer_bounded (out-roll-Value x)))
 
-  pub all_kept : (vs : List Value) → list_all is_bounded vs ≡ true → list_all is_bounded (map (relabelled b) vs) ≡ true
+  pub all_kept : (vs : List Value) → list_all is_bounded vs ≡ true
+      → list_all is_bounded (map (relabelled b) vs) ≡ true
   all_kept [] h = refl
   all_kept (v ∷ vs) h =
       let p = and_parts (is_bounded v) (list_all is_bounded vs) h in
-      and_from (is_bounded (relabelled b v)) (list_all is_bounded (map (relabelled b) vs)) (bounded_kept v ∙ p.0) (all_kept vs p.1)
+      and_from (is_bounded (relabelled b v)) (list_all is_bounded (map (relabelled b) vs))
+      (bounded_kept v ∙ p.0) (all_kept vs p.1)
 
 -- the first and the others of a list in bounds
-pub first_of : {X : Type 0} (test : X → Bool) (x : X) (xs : List X) → list_all test (x ∷ xs) ≡ true → test x ≡ true
+pub first_of : {X : Type 0} (test : X → Bool) (x : X) (xs : List X) → list_all test (x ∷ xs) ≡ true
+    → test x ≡ true
 first_of test x xs h = (and_parts (test x) (list_all test xs) h).0
 
-pub rest_of : {X : Type 0} (test : X → Bool) (x : X) (xs : List X) → list_all test (x ∷ xs) ≡ true → list_all test xs ≡ true
+pub rest_of : {X : Type 0} (test : X → Bool) (x : X) (xs : List X) → list_all test (x ∷ xs) ≡ true
+    → list_all test xs ≡ true
 rest_of test x xs h = (and_parts (test x) (list_all test xs) h).1

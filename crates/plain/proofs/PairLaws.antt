@@ -31,16 +31,22 @@ number_same n l h = grind (arith, nat_tests)
 
 module _ (t : Nodes) where
   -- what the test of one value says
-  like_at : (n : ℕ) (u : Value) (ls : List ℕ) (vs : List Value) → length ls ≡ length vs → are_like t n u ls vs ≡ true → (j : ℕ) (v : Value) → slice_get vs j ≡ Some v → n ≡ slice_index ls j → are_equal t 0 u v ≡ true
+  like_at : (n : ℕ) (u : Value) (ls : List ℕ) (vs : List Value) → length ls ≡ length vs
+      → are_like t n u ls vs ≡ true → (j : ℕ) (v : Value) → slice_get vs j ≡ Some v
+      → n ≡ slice_index ls j → are_equal t 0 u v ≡ true
   like_at n u ls [] c h j v at e = absurd (none_some v at)
   like_at n u [] (w ∷ vs) c h j v at e = absurd (omega (arith, c))
   like_at n u (l ∷ ls) (w ∷ vs) c h zero v at e =
       subst (λ x. are_equal t 0 u x ≡ true) (some_same w v at)
-      (when (n == l) (are_equal t 0 u w) (number_same n l e) (and_parts (if n == l then are_equal t 0 u w else true) (are_like t n u ls vs) h).0)
+      (when (n == l) (are_equal t 0 u w) (number_same n l e)
+      (and_parts (if n == l then are_equal t 0 u w else true) (are_like t n u ls vs) h).0)
   like_at n u (l ∷ ls) (w ∷ vs) c h (suc j) v at e =
-      like_at n u ls vs (omega (arith, c)) (and_parts (if n == l then are_equal t 0 u w else true) (are_like t n u ls vs) h).1 j v at e
+      like_at n u ls vs (omega (arith, c)) (and_parts (if n == l then are_equal t 0 u w else true)
+      (are_like t n u ls vs) h).1 j v at e
 
-  like_from : (n : ℕ) (u : Value) (ls : List ℕ) (vs : List Value) → ((j : ℕ) (v : Value) → slice_get vs j ≡ Some v → n ≡ slice_index ls j → are_equal t 0 u v ≡ true) → are_like t n u ls vs ≡ true
+  like_from : (n : ℕ) (u : Value) (ls : List ℕ) (vs : List Value)
+      → ((j : ℕ) (v : Value) → slice_get vs j ≡ Some v → n ≡ slice_index ls j
+      → are_equal t 0 u v ≡ true) → are_like t n u ls vs ≡ true
   like_from n u [] vs f = refl
   like_from n u (l ∷ ls) [] f = refl
   like_from n u (l ∷ ls) (w ∷ vs) f =
@@ -49,18 +55,24 @@ module _ (t : Nodes) where
       (like_from n u ls vs (λ j v at e. f (suc j) v at e))
 
   -- and what it says of all
-  alike_at : (ks : List ℕ) (us : List Value) (bs : List ℕ) (vs : List Value) → length ks ≡ length us → length bs ≡ length vs → all_alike t ks us bs vs ≡ true
-      → (i j : ℕ) (u v : Value) → slice_get us i ≡ Some u → slice_get vs j ≡ Some v → slice_index ks i ≡ slice_index bs j → are_equal t 0 u v ≡ true
+  alike_at : (ks : List ℕ) (us : List Value) (bs : List ℕ) (vs : List Value) → length ks ≡ length us
+      → length bs ≡ length vs → all_alike t ks us bs vs ≡ true
+      → (i j : ℕ) (u v : Value) → slice_get us i ≡ Some u → slice_get vs j ≡ Some v
+      → slice_index ks i ≡ slice_index bs j → are_equal t 0 u v ≡ true
   alike_at ks [] bs vs c d h i j u v at at' e = absurd (none_some u at)
   alike_at [] (w ∷ us) bs vs c d h i j u v at at' e = absurd (omega (arith, c))
   alike_at (l ∷ ks) (w ∷ us) bs vs c d h zero j u v at at' e =
       subst (λ x. are_equal t 0 x v ≡ true) (some_same w u at)
-      (like_at l w bs vs d (and_parts (are_like t l w bs vs) (all_alike t ks us bs vs) h).0 j v at' e)
+      (like_at l w bs vs d (and_parts (are_like t l w bs vs) (all_alike t ks us bs vs) h).0 j v at'
+      e)
   alike_at (l ∷ ks) (w ∷ us) bs vs c d h (suc i) j u v at at' e =
-      alike_at ks us bs vs (omega (arith, c)) d (and_parts (are_like t l w bs vs) (all_alike t ks us bs vs) h).1 i j u v at at' e
+      alike_at ks us bs vs (omega (arith, c)) d (and_parts (are_like t l w bs vs)
+      (all_alike t ks us bs vs) h).1 i j u v at at' e
 
   alike_from : (ks : List ℕ) (us : List Value) (bs : List ℕ) (vs : List Value)
-      → ((i j : ℕ) (u v : Value) → slice_get us i ≡ Some u → slice_get vs j ≡ Some v → slice_index ks i ≡ slice_index bs j → are_equal t 0 u v ≡ true) → all_alike t ks us bs vs ≡ true
+      → ((i j : ℕ) (u v : Value) → slice_get us i ≡ Some u → slice_get vs j ≡ Some v
+      → slice_index ks i ≡ slice_index bs j → are_equal t 0 u v ≡ true)
+      → all_alike t ks us bs vs ≡ true
   alike_from [] us bs vs f = refl
   alike_from (l ∷ ks) [] bs vs f = refl
   alike_from (l ∷ ks) (w ∷ us) bs vs f =
@@ -69,36 +81,51 @@ module _ (t : Nodes) where
       (alike_from ks us bs vs (λ i j u v at at' e. f (suc i) j u v at at' e))
 
 -- an element of a list of what a function gives
-mapped_at : {X Y : Type 0} (f : X → Y) (xs : List X) (i : ℕ) (y : Y) → slice_get (map f xs) i ≡ Some y → (x : X) × (slice_get xs i ≡ Some x) × (f x ≡ y)
+mapped_at : {X Y : Type 0} (f : X → Y) (xs : List X) (i : ℕ) (y : Y)
+    → slice_get (map f xs) i ≡ Some y → (x : X) × (slice_get xs i ≡ Some x) × (f x ≡ y)
 mapped_at f [] i y e = absurd (none_some y e)
 mapped_at f (x ∷ xs) zero y e = (x, refl, some_same (f x) y e)
 mapped_at f (x ∷ xs) (suc i) y e = mapped_at f xs i y e
 
 module _ (t : Nodes) (values : List Value) (b : List ℕ) where
-  pub stable_from : length b ≡ length values → all_alike t b (map (relabelled b) values) b (map (relabelled b) values) ≡ true → IsStable t values b
+  pub stable_from : length b ≡ length values
+      → all_alike t b (map (relabelled b) values) b (map (relabelled b) values) ≡ true
+      → IsStable t values b
   stable_from c h = record {
     covers = c;
-    equal = λ i j u v at at' e. alike_at t b (map (relabelled b) values) b (map (relabelled b) values) (c ∙ sym count) (c ∙ sym count) h i j (relabelled b u) (relabelled b v)
-        (slice_get-map (relabelled b) values i ∙ ap (option_map (relabelled b)) at) (slice_get-map (relabelled b) values j ∙ ap (option_map (relabelled b)) at') e;
+    equal = λ i j u v at at' e. alike_at t b (map (relabelled b) values) b
+        (map (relabelled b) values) (c ∙ sym count) (c ∙ sym count) h i j (relabelled b u)
+        (relabelled b v)
+        (slice_get-map (relabelled b) values i ∙ ap (option_map (relabelled b)) at)
+        (slice_get-map (relabelled b) values j ∙ ap (option_map (relabelled b)) at') e;
   }
     where
       count : length (map (relabelled b) values) ≡ length values
       count = rw length-map
 
-  pub stable_to : IsStable t values b → all_alike t b (map (relabelled b) values) b (map (relabelled b) values) ≡ true
-  stable_to is = alike_from t b (map (relabelled b) values) b (map (relabelled b) values) (λ i j u v at at' e.
+  pub stable_to : IsStable t values b
+      → all_alike t b (map (relabelled b) values) b (map (relabelled b) values) ≡ true
+  stable_to is = alike_from t b (map (relabelled b) values) b (map (relabelled b) values)
+      (λ i j u v at at' e.
       let (x, here, same) = mapped_at (relabelled b) values i u at in
       let (y, there, same') = mapped_at (relabelled b) values j v at' in
-      subst (λ w. are_equal t 0 u w ≡ true) same' (subst (λ w. are_equal t 0 w (relabelled b y) ≡ true) same (is.equal i j x y here there e)))
+      subst (λ w. are_equal t 0 u w ≡ true) same' (subst (λ w. are_equal t 0 w (relabelled b y)
+      ≡ true) same (is.equal i j x y here there e)))
 
-  place_mapped : (vs : List Value) (p : Value → Bool) → position_or_len p (map (relabelled b) vs) ≡ position_or_len (λ v. p (relabelled b v)) vs
+  place_mapped : (vs : List Value) (p : Value → Bool) → position_or_len p (map (relabelled b) vs)
+      ≡ position_or_len (λ v. p (relabelled b v)) vs
   place_mapped [] p = refl
   place_mapped (v ∷ vs) p = λ i. cond (not (p (relabelled b v))) (1 + place_mapped vs p i) 0
 
-  places_mapped : (us : List Value) → map (first_place t (map (relabelled b) values)) (map (relabelled b) us) ≡ map (first_equal t values b) us
+  places_mapped : (us : List Value)
+      → map (first_place t (map (relabelled b) values)) (map (relabelled b) us)
+      ≡ map (first_equal t values b) us
   places_mapped [] = refl
-  places_mapped (u ∷ us) = λ i. place_mapped values (λ v. are_equal t 0 v (relabelled b u)) i ∷ places_mapped us i
+  places_mapped (u ∷ us) = λ i. place_mapped values (λ v. are_equal t 0 v (relabelled b u)) i
+      ∷ places_mapped us i
 
   -- the first places among the relabelled values are the next labels
-  pub next_labels : (new : List Value) (next : List ℕ) → new ≡ map (relabelled b) values → next ≡ map (first_place t new) new → next ≡ regrouped t values b
-  next_labels new next e h = h ∙ ap (λ (vs : List Value). map (first_place t vs) vs) e ∙ places_mapped values
+  pub next_labels : (new : List Value) (next : List ℕ) → new ≡ map (relabelled b) values
+      → next ≡ map (first_place t new) new → next ≡ regrouped t values b
+  next_labels new next e h = h ∙ ap (λ (vs : List Value). map (first_place t vs) vs) e
+      ∙ places_mapped values

@@ -166,7 +166,8 @@ module _
 
   pub three_is :
       (n : ℕ) →
-      n ≡ bits_of weight.outside (nat_lt 0 (weight.inside - length moved)) (nat_lt 0 (length moved)) →
+      n ≡ bits_of weight.outside (nat_lt 0 (weight.inside - length moved)) (nat_lt 0 (length moved))
+      →
       ◌≡◌ {A = Three} (Members n) (value_of_set ts)
   three_is n e =
       let k : Counts labels ts = counts labels ts one_each trits in

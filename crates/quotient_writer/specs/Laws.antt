@@ -16,8 +16,8 @@ use Rattle.typing.specs.Stable.{IsStable, IsFirst, Refines, AreEquivalent}
 use Rattle.quotient_writer.specs.Quotient.{is_numbered, picked, IsQuotient}
 use Rattle.quotient_writer.specs.Blocks.{AreFirsts, first_state, first_states}
 
--- classes are numbered by their first states exactly if, at each state, each class of a smaller number
--- has begun before
+-- classes are numbered by their first states exactly if, at each state, each class of a smaller
+-- number has begun before
 abbrev pub NumberedByFirstStates : Type 0
 NumberedByFirstStates =
     (b : List ℕ) → IsTrue (is_numbered b) ↔

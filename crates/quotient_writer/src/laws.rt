@@ -3,8 +3,8 @@ ghost use Rattle.std.specs.Prelude.{ℕ, List};
 ghost use Rattle.typing.specs.declared.value.Value.{Value};
 ghost use Rattle.quotient_writer.specs.Laws.{NumberedByFirstStates, PickedAreFirstStates, FirstEquivalentsAreFirsts, FirstEquivalentsAreNumbered, NamesAreDetermined, ValuesAreDetermined, QuotientsAreMinimal, MinimalSystemsAreTheirOwnQuotients};
 
-/// Classes are numbered by their first states exactly if, at each state, each class of a smaller number
-/// has begun before.
+/// Classes are numbered by their first states exactly if, at each state, each class of a smaller
+/// number has begun before.
 pub fn classes_are_numbered_by_first_states()
     ensures { NumberedByFirstStates }
 {}

@@ -45,7 +45,8 @@ size_none (c ∷ cs) b apart =
 
 -- one state moves
 size_set : (block : List ℕ) (x new c : ℕ) → x < length block →
-    size_in (set block x new) c + cond (get_or block x 0 == c) 1 0 ≡ size_in block c + cond (new == c) 1 0
+    size_in (set block x new) c + cond (get_or block x 0 == c) 1 0 ≡ size_in block c
+    + cond (new == c) 1 0
 size_set block x new c hx = sum_by-set (λ (v : ℕ). cond (v == c) 1 0) block x new 0 hx
 
 -- so one more is moved
@@ -62,7 +63,8 @@ moved_one before block old new moved x apart hx here so_far =
     record {
       to = grind (arith, nat_tests, to, apart, so_far.to);
       from = grind (arith, nat_tests, from, apart, so_far.from);
-      others = λ c a b. (let o = at c in let s = so_far.others c a b in grind (arith, nat_tests, o, s, a, b));
+      others = λ c a b. (let o = at c in let s = so_far.others c a b in
+          grind (arith, nat_tests, o, s, a, b));
     }
 
 -- the next state of a list moves, where each is listed once and was in the old block

@@ -87,7 +87,8 @@ module _ {order place block first sizes marks : List ℕ} {count : ℕ}
     place_y = rw y_is (laid.in_order (f + m) j_in).1
 
     block_y : get_or block y 0 ≡ b
-    block_y = rw y_is (laid.contiguous b (f + m) b_count (omega (arith, f_is)) (omega (arith, i_high, later)))
+    block_y = rw y_is (laid.contiguous b (f + m) b_count (omega (arith, f_is))
+        (omega (arith, i_high, later)))
 
     module _ {order_new place_new : List ℕ} (order_swap : SwappedAt order order_new i (f + m))
         (place_swap : SwappedAt place place_new x y) where
@@ -140,7 +141,20 @@ module _ {order place block first sizes marks : List ℕ} {count : ℕ}
         in_block = λ z h. (
             let here = laid.in_block z (omega (arith, order_len)) in
             let o = place_at z in
-            grind (arith, nat_tests, o, here, block_y, b_is, i_is, i_low, i_high, f_is, later, b_count));
+            grind (
+              arith,
+              nat_tests,
+              o,
+              here,
+              block_y,
+              b_is,
+              i_is,
+              i_low,
+              i_high,
+              f_is,
+              later,
+              b_count,
+            ));
         contiguous = λ c k hc low high. (
             let here = laid.contiguous c k hc low high in
             let o = order_at k in
@@ -204,5 +218,9 @@ module _ {order place block first sizes marks : List ℕ} {count : ℕ}
             get_or_past new_marks z false
             (omega (arith, length-marks_in block place_new first marks_new new_len))
             ∙ sym (get_or_past old_marks z false (
-            omega (arith, length-marks_in block place first marks (laid.place_len ∙ sym laid.block_len))))
+            omega (
+              arith,
+              length-marks_in block place first marks (laid.place_len
+                  ∙ sym laid.block_len),
+            )))
       ]

@@ -31,7 +31,8 @@ module _ {order place block first sizes marks : List ℕ} {count : ℕ}
   pub front_of_block : All (λ x. get_or block x 0 ≡ b) front
   front_of_block k d h =
       let hk : k < n = omega (arith, length-front) in
-      rw (front_at k d hk) (laid.contiguous b (f + k) hb (omega (arith, f_is)) (omega (arith, f_is, fits)))
+      rw (front_at k d hk) (laid.contiguous b (f + k) hb (omega (arith, f_is))
+      (omega (arith, f_is, fits)))
 
   pub front_once : AllPairs (λ x y. x ≢ y) front
   front_once i j d hij hj same =

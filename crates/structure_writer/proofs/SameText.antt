@@ -47,7 +47,8 @@ at_same (f ∷ fs) (w ∷ ws) (o ∷ os) z k v = by (k == 0) (at_same fs ws os z
 -- the place behind another
 write_behind : (w : Write) (ws : List Write) (k : ℕ) → write_at (w ∷ ws) (k + 1) ≡ write_at ws k
 write_behind w ws k =
-    ap (λ b. if b then w else write_at ws (k + 1 - 1)) (let e : ((k + 1) == 0) ≡ false = grind arith in e)
+    ap (λ b. if b then w else write_at ws (k + 1 - 1)) (let e : ((k + 1) == 0) ≡ false =
+    grind arith in e)
     ∙ ap (write_at ws) (let e : k + 1 - 1 ≡ k = omega arith in e)
 
 texts_behind : (w : Write) (ws : List Write) (k : ℕ) (vs : List Value)
@@ -112,7 +113,8 @@ module _ (stay : LowestTermsStay) (k l : ℕ) (hk : 1 ≤ k) (hl : 1 ≤ l) (nam
 
     weights_same : (m : Node) (fs : List Rescale) (ws others : List Write)
         → Zip3 Same fs ws others → (v : Value)
-        → weights_text (k * l) m ws (value.Weights (rescaled_entries k m (rescale_at fs 0) (entries v)))
+        → weights_text (k * l) m ws
+        (value.Weights (rescaled_entries k m (rescale_at fs 0) (entries v)))
         ≡ weights_text l m others v
     weights_same m fs ws others z v =
         ap (λ es. in_braces (listed (entry_texts (k * l) m (write_at ws 0) es)))
@@ -132,7 +134,8 @@ module _ (stay : LowestTermsStay) (k l : ℕ) (hk : 1 ≤ k) (hl : 1 ≤ l) (nam
         (tuple_parts (rescaled_places fs (parts v)))
         ∙ ap (λ texts. in_parentheses (listed texts)) (places_same fs ws others z (parts v))
     step_same Sum fs ws others z v =
-        ap (λ u. part_text (index (value.Inj (index v) u0)) (write_at ws (index (value.Inj (index v) u0)) u))
+        ap (λ u. part_text (index (value.Inj (index v) u0))
+        (write_at ws (index (value.Inj (index v) u0)) u))
         (inj_inner (index v) u0)
         ∙ ap (λ j. part_text j (write_at ws j u0)) (inj_index (index v) u0)
         ∙ ap (part_text (index v)) (at_same fs ws others z (index v) (inner v))

@@ -14,7 +14,8 @@ layer_within m x = within_step m (map-Value Value Bool (is_within m) x)
 pub within_out : (m : ℕ) (v : Value) → is_within m v ≡ layer_within m (out-Value v)
 within_out m v = fold_out-Value Bool (within_step m) v
 
-pub parts_within : (m : ℕ) (v : Value) → is_within m v ≡ true → list_all (is_within m) (parts v) ≡ true
+pub parts_within : (m : ℕ) (v : Value) → is_within m v ≡ true
+    → list_all (is_within m) (parts v) ≡ true
 parts_within m v h = by (out-Value v) (sym (within_out m v) ∙ h)
   where
     by : (x : Value-F Value) → layer_within m x ≡ true → list_all (is_within m) (parts_in x) ≡ true
@@ -40,10 +41,12 @@ inner_within m v h = by (out-Value v) (sym (within_out m v) ∙ h)
 abbrev pub tested : ℕ → List (Value × ℤ) → List (Bool × ℤ)
 tested m es = map (λ e. (is_within m e.0, e.1)) es
 
-pub entries_within : (m : ℕ) (v : Value) → is_within m v ≡ true → list_all (λ e. is_within m e.0) (entries v) ≡ true
+pub entries_within : (m : ℕ) (v : Value) → is_within m v ≡ true
+    → list_all (λ e. is_within m e.0) (entries v) ≡ true
 entries_within m v h = by (out-Value v) (sym (within_out m v) ∙ h)
   where
-    by : (x : Value-F Value) → layer_within m x ≡ true → list_all (λ e. is_within m e.0) (entries_in x) ≡ true
+    by : (x : Value-F Value) → layer_within m x ≡ true
+        → list_all (λ e. is_within m e.0) (entries_in x) ≡ true
     by (Value-F.Tuple vs) h = refl
     by (Value-F.Set vs) h = refl
     by (Value-F.State i) h = refl
@@ -51,4 +54,5 @@ entries_within m v h = by (out-Value v) (sym (within_out m v) ∙ h)
     by (Value-F.Inj k v) h = refl
     by (Value-F.Weights es) h =
         sym (list_all-map (λ (e : Bool × ℤ). e.0) (λ (e : Value × ℤ). (is_within m e.0, e.1)) es)
-        ∙ (and_parts (list_all (λ (e : Bool × ℤ). e.0) (tested m es)) (nat_le (absolute_sum (tested m es)) m) h).0
+        ∙ (and_parts (list_all (λ (e : Bool × ℤ). e.0) (tested m es))
+        (nat_le (absolute_sum (tested m es)) m) h).0

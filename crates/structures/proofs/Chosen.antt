@@ -1,4 +1,5 @@
--- The edges of one structure among those of all: the sources are each structure's number, as often as
+-- The edges of one structure among those of all: the sources are each structure's number, as often
+-- as
 -- edges leave it.
 use Rattle.std.proofs.Common.{◌≡◌, ℕ, zero, suc, ◌+◌, ◌<◌, ◌≤◌, Bool, true, false, List, [], ◌∷◌, ◌++◌, length, take, Some, None, slice_get, refl, sym, ap, ◌∙◌, arith, append_assoc, All}
 use Rattle.std.specs.Prelude.{slice_index_or, ◌==◌, if◌then◌else◌}

@@ -15,10 +15,12 @@ use Rattle.structures.proofs.AtChild.{at_child-within, at_child-past, lt_or_le, 
 use Rattle.structures.proofs.Leaves.{leaves-children}
 
 module _ (t : Nodes) (x : Place) (rest : List Place) (places : List Place) where
-  pub step_places : (places ++ layers_in t (x ∷ [])) ++ layers_in t rest ≡ places ++ layers_in t (x ∷ rest)
+  pub step_places : (places ++ layers_in t (x ∷ [])) ++ layers_in t rest ≡ places ++ layers_in t
+      (x ∷ rest)
   step_places = by (is_state_at t x)
     where
-      by : (b : Bool) → (places ++ cond (not b) (x ∷ []) []) ++ layers_in t rest ≡ places ++ cond (not b) (x ∷ layers_in t rest) (layers_in t rest)
+      by : (b : Bool) → (places ++ cond (not b) (x ∷ []) []) ++ layers_in t rest ≡ places
+          ++ cond (not b) (x ∷ layers_in t rest) (layers_in t rest)
       by true = append_assoc places [] (layers_in t rest)
       by false = append_assoc places (x ∷ []) (layers_in t rest)
 
@@ -75,14 +77,18 @@ one_inside : (n : ℕ) (y : Place) (ys : List Place) → y.0 < n → AreInside n
 one_inside n y ys h hs zero x e = subst (λ z. z.0 < n) (some_first y x e) h
 one_inside n y ys h hs (suc i) x e = hs i x e
 
-each_inside : {X : Type 0} (n q : ℕ) (f : X → Value) → q < n → (us : List X) → AreInside n (map (λ u. (q, f u)) us)
+each_inside : {X : Type 0} (n q : ℕ) (f : X → Value) → q < n → (us : List X)
+    → AreInside n (map (λ u. (q, f u)) us)
 each_inside n q f h [] = none_inside n
-each_inside n q f h (u ∷ us) = one_inside n (q, f u) (map (λ u. (q, f u)) us) h (each_inside n q f h us)
+each_inside n q f h (u ∷ us) = one_inside n (q, f u) (map (λ u. (q, f u)) us) h
+    (each_inside n q f h us)
 
-zipped_inside : (n : ℕ) (qs : List ℕ) (us : List Value) → ((k : ℕ) → k < length qs → slice_index qs k < n) → AreInside n (zip qs us)
+zipped_inside : (n : ℕ) (qs : List ℕ) (us : List Value)
+    → ((k : ℕ) → k < length qs → slice_index qs k < n) → AreInside n (zip qs us)
 zipped_inside n [] us h = none_inside n
 zipped_inside n (q ∷ qs) [] h = none_inside n
-zipped_inside n (q ∷ qs) (u ∷ us) h = one_inside n (q, u) (zip qs us) (h 0 (omega arith)) (zipped_inside n qs us (λ k w. h (suc k) (omega arith)))
+zipped_inside n (q ∷ qs) (u ∷ us) h = one_inside n (q, u) (zip qs us) (h 0 (omega arith))
+    (zipped_inside n qs us (λ k w. h (suc k) (omega arith)))
 
 -- values at the k-th of nodes below n
 at_inside :
@@ -121,24 +127,34 @@ children_inside t p v is h = by (node_at t p)
     by Rationals = at 0 (weighed v)
 
 -- what stands at a place of the children stands there among the leaves
-pub leaf_at : (t : Nodes) (p i : ℕ) (v : Value) (x : Place) → slice_get (children_of t (p, v)) i ≡ Some x → slice_get (leaves_of t (p, v)) i ≡ Some x
+pub leaf_at : (t : Nodes) (p i : ℕ) (v : Value) (x : Place)
+    → slice_get (children_of t (p, v)) i ≡ Some x → slice_get (leaves_of t (p, v)) i ≡ Some x
 leaf_at t p i v x e = ap (λ l. slice_get l i) (leaves-children t (p, v)) ∙ e
 
 -- what is left from a place begins with what stands there
-pub drop_at : {X : Type 0} (xs : List X) (i : ℕ) (x : X) → slice_get xs i ≡ Some x → drop i xs ≡ x ∷ drop (i + 1) xs
+pub drop_at : {X : Type 0} (xs : List X) (i : ℕ) (x : X) → slice_get xs i ≡ Some x
+    → drop i xs ≡ x ∷ drop (i + 1) xs
 drop_at [] i x e = absurd (none_some x e)
 drop_at (y ∷ ys) zero x e = ap (λ z. z ∷ ys) (some_first y x e)
-drop_at {X = X} (y ∷ ys) (suc i) x e = drop_at ys i x e ∙ ap (λ n. x ∷ drop n (y ∷ ys)) (let one : suc (i + 1) ≡ suc i + 1 = omega arith in one)
+drop_at {X = X} (y ∷ ys) (suc i) x e = drop_at ys i x e
+    ∙ ap (λ n. x ∷ drop n (y ∷ ys)) (let one : suc (i + 1) ≡ suc i + 1 = omega arith in one)
 
 -- one turn of the loop over the children
-module _ (t : Nodes) (kids : List Place) (i : ℕ) (x : Place) (at : slice_get kids i ≡ Some x) (places after : List Place) (added : after ≡ places ++ layers_in t (x ∷ [])) where
-  pub link_places : (all : List Place) → places ++ layers_in t (drop i kids) ≡ all → after ++ layers_in t (drop (i + 1) kids) ≡ all
-  link_places all h = ap (λ l. l ++ layers_in t (drop (i + 1) kids)) added ∙ step_places t x (drop (i + 1) kids) places ∙ sym (ap (λ l. places ++ layers_in t l) (drop_at kids i x at)) ∙ h
+module _ (t : Nodes) (kids : List Place) (i : ℕ) (x : Place) (at : slice_get kids i ≡ Some x)
+    (places after : List Place) (added : after ≡ places ++ layers_in t (x ∷ [])) where
+  pub link_places : (all : List Place) → places ++ layers_in t (drop i kids) ≡ all
+      → after ++ layers_in t (drop (i + 1) kids) ≡ all
+  link_places all h = ap (λ l. l ++ layers_in t (drop (i + 1) kids)) added
+      ∙ step_places t x (drop (i + 1) kids) places
+      ∙ sym (ap (λ l. places ++ layers_in t l) (drop_at kids i x at)) ∙ h
 
-  pub link_few : (n : ℕ) → length places + length (drop i kids) ≤ n → length after + length (drop (i + 1) kids) ≤ n
+  pub link_few : (n : ℕ) → length places + length (drop i kids) ≤ n
+      → length after + length (drop (i + 1) kids) ≤ n
   link_few n h =
-      let one : length (drop i kids) ≡ suc (length (drop (i + 1) kids)) = ap length (drop_at kids i x at) in
-      let two : length after ≤ length places + 1 = subst (λ l. length l ≤ length places + 1) (sym added) (step_count t x [] places) in
+      let one : length (drop i kids) ≡ suc (length (drop (i + 1) kids)) = ap length
+      (drop_at kids i x at) in
+      let two : length after ≤ length places + 1 = subst (λ l. length l ≤ length places + 1)
+      (sym added) (step_count t x [] places) in
       omega (arith, one, two)
 
   pub link_sources :
@@ -177,7 +193,8 @@ pub append_none : {X : Type 0} (xs : List X) → xs ++ [] ≡ xs
 append_none [] = refl
 append_none (x ∷ xs) = ap (λ l. x ∷ l) (append_none xs)
 
-pub linked_places : (t : Nodes) (kids places all : List Place) (i : ℕ) → length kids ≤ i → places ++ layers_in t (drop i kids) ≡ all → places ≡ all
+pub linked_places : (t : Nodes) (kids places all : List Place) (i : ℕ) → length kids ≤ i
+    → places ++ layers_in t (drop i kids) ≡ all → places ≡ all
 linked_places t kids places all i past h =
     sym (append_none places) ∙ ap (λ l. places ++ layers_in t l) (sym (none_left kids i past)) ∙ h
 

@@ -34,12 +34,14 @@ check_within (f ∷ fs) (suc k) v h =
     omega (arith, check_within fs k v later)
 
 -- the k-th check of a list of checks, one for each node
-check_at-map : (f : ℕ → Check) (qs : List ℕ) (k : ℕ) → k < length qs → check_at (map f qs) k ≡ f (slice_index qs k)
+check_at-map : (f : ℕ → Check) (qs : List ℕ) (k : ℕ) → k < length qs
+    → check_at (map f qs) k ≡ f (slice_index qs k)
 check_at-map f [] k h = absurd (omega arith)
 check_at-map f (q ∷ qs) zero h = refl
 check_at-map f (q ∷ qs) (suc k) h =
     let one : suc k - 1 ≡ k = omega arith in
-    ap (λ o. if o then f q else check_at (map f qs) (suc k - 1)) (suc_not_zero k) ∙ ap (check_at (map f qs)) one ∙ check_at-map f qs k (omega arith)
+    ap (λ o. if o then f q else check_at (map f qs) (suc k - 1)) (suc_not_zero k)
+    ∙ ap (check_at (map f qs)) one ∙ check_at-map f qs k (omega arith)
 
 module _ (f : ℕ → Check) (B : Value → Bool) (qs : List ℕ) where
   -- a child at one of the nodes, which passes its check
@@ -59,10 +61,17 @@ module _ (f : ℕ → Check) (B : Value → Bool) (qs : List ℕ) where
   one_good y ys h hs (suc i) x e = hs i x e
 
   -- what passes the k-th check
-  picked_good : (k : ℕ) (v : Value) → check_at (map f qs) k v ≡ true → B v ≡ true → IsGood (slice_index qs k, v)
+  picked_good : (k : ℕ) (v : Value) → check_at (map f qs) k v ≡ true → B v ≡ true
+      → IsGood (slice_index qs k, v)
   picked_good k v h b =
-      let inside : k < length qs = subst (λ m. k < m) (length-map qs f) (check_within (map f qs) k v h) in
-      record { node = picked_in qs k inside; fit = sym (ap (λ (g : Check). g v) (check_at-map f qs k inside)) ∙ h; below = b }
+      let inside : k < length qs = subst (λ m. k < m) (length-map qs f) (check_within (map f qs) k v
+      h) in
+      record {
+        node = picked_in qs k inside;
+        fit =
+            sym (ap (λ (g : Check). g v) (check_at-map f qs k inside)) ∙ h;
+        below = b;
+      }
 
   each_good :
       (k : ℕ) (us : List Value) → list_all (check_at (map f qs) k) us ≡ true →
@@ -88,23 +97,33 @@ module _ (f : ℕ → Check) (B : Value → Bool) (qs : List ℕ) where
       list_all g (weighed v) ≡ true
   of_weighed g v h = list_all-map g (λ (e : Value × ℤ). e.0) (entries v) ∙ h
 
-zip_good : (f : ℕ → Check) (B : Value → Bool) (all qs : List ℕ) (us : List Value) → ((q : ℕ) → Contains qs q → Contains all q) → each_fits (map f qs) us ≡ true → list_all (B) us ≡ true → AreGood f B all (zip qs us)
+zip_good : (f : ℕ → Check) (B : Value → Bool) (all qs : List ℕ) (us : List Value)
+    → ((q : ℕ) → Contains qs q → Contains all q) → each_fits (map f qs) us ≡ true
+    → list_all (B) us ≡ true → AreGood f B all (zip qs us)
 zip_good f B all [] us w h b = none_good f B all
 zip_good f B all (q ∷ qs) [] w h b = none_good f B all
 zip_good f B all (q ∷ qs) (u ∷ us) w h b =
     let p = and_parts (f q u) (each_fits (map f qs) us) h in
     let c = and_parts (B u) (list_all (B) us) b in
-    one_good f B all (q, u) (zip qs us) (record { node = w q (first_in q qs); fit = p.0; below = c.0 }) (zip_good f B all qs us (λ r k. w r (rest_in q qs r k)) p.1 c.1)
+    one_good f B all (q, u) (zip qs us) (record {
+      node = w q (first_in q qs);
+      fit = p.0;
+      below =
+          c.0;
+    }) (zip_good f B all qs us (λ r k. w r (rest_in q qs r k)) p.1 c.1)
 
 -- the children of a structure that fits, at a node that is no State node
-module _ (f : ℕ → Check) (B : Value → Bool) (qs : List ℕ) (p : ℕ) (v : Value) (in_parts : list_all B (parts v) ≡ true) (in_inner : B (inner v) ≡ true) (in_entries : list_all (λ e. B e.0) (entries v) ≡ true) where
+module _ (f : ℕ → Check) (B : Value → Bool) (qs : List ℕ) (p : ℕ) (v : Value)
+    (in_parts : list_all B (parts v) ≡ true) (in_inner : B (inner v) ≡ true)
+    (in_entries : list_all (λ e. B e.0) (entries v) ≡ true) where
   abbrev Goal : Node → Type 0
   Goal m = fits_step m (map f qs) v ≡ true → AreGood f B qs (child_places m qs p v)
 
   wrong : {A : Type 0} → false ≡ true → A
   wrong e = absurd (true≢false (sym e))
 
-  set_parts : (x : Value-F Value) → fits_level Powerset (map f qs) x ≡ true → list_all (check_at (map f qs) 0) (parts_in x) ≡ true
+  set_parts : (x : Value-F Value) → fits_level Powerset (map f qs) x ≡ true
+      → list_all (check_at (map f qs) 0) (parts_in x) ≡ true
   set_parts (Value-F.Set vs) h = h
   set_parts (Value-F.State i) h = wrong h
   set_parts (Value-F.Label i) h = wrong h
@@ -112,7 +131,8 @@ module _ (f : ℕ → Check) (B : Value → Bool) (qs : List ℕ) (p : ℕ) (v :
   set_parts (Value-F.Inj k u) h = wrong h
   set_parts (Value-F.Weights es) h = wrong h
 
-  product_parts : (x : Value-F Value) → fits_level Product (map f qs) x ≡ true → each_fits (map f qs) (parts_in x) ≡ true
+  product_parts : (x : Value-F Value) → fits_level Product (map f qs) x ≡ true
+      → each_fits (map f qs) (parts_in x) ≡ true
   product_parts (Value-F.Tuple vs) h = h
   product_parts (Value-F.Set vs) h = wrong h
   product_parts (Value-F.State i) h = wrong h
@@ -120,7 +140,8 @@ module _ (f : ℕ → Check) (B : Value → Bool) (qs : List ℕ) (p : ℕ) (v :
   product_parts (Value-F.Inj k u) h = wrong h
   product_parts (Value-F.Weights es) h = wrong h
 
-  weight_parts : (x : Value-F Value) → fits_level Bag (map f qs) x ≡ true → list_all (λ e. check_at (map f qs) 0 e.0) (entries_in x) ≡ true
+  weight_parts : (x : Value-F Value) → fits_level Bag (map f qs) x ≡ true
+      → list_all (λ e. check_at (map f qs) 0 e.0) (entries_in x) ≡ true
   weight_parts (Value-F.Weights es) h = h
   weight_parts (Value-F.State i) h = wrong h
   weight_parts (Value-F.Label i) h = wrong h
@@ -128,7 +149,8 @@ module _ (f : ℕ → Check) (B : Value → Bool) (qs : List ℕ) (p : ℕ) (v :
   weight_parts (Value-F.Set vs) h = wrong h
   weight_parts (Value-F.Inj k u) h = wrong h
 
-  sum_part : (x : Value-F Value) → fits_level Sum (map f qs) x ≡ true → check_at (map f qs) (index_in x) (inner_in v x) ≡ true
+  sum_part : (x : Value-F Value) → fits_level Sum (map f qs) x ≡ true
+      → check_at (map f qs) (index_in x) (inner_in v x) ≡ true
   sum_part (Value-F.Inj k u) h = h
   sum_part (Value-F.State i) h = wrong h
   sum_part (Value-F.Label i) h = wrong h
@@ -137,8 +159,10 @@ module _ (f : ℕ → Check) (B : Value → Bool) (qs : List ℕ) (p : ℕ) (v :
   sum_part (Value-F.Weights es) h = wrong h
 
   module _ (labels : LabelSet) where
-    power_parts : (x : Value-F Value) → fits_level (Power labels) (map f qs) x ≡ true → list_all (check_at (map f qs) 0) (parts_in x) ≡ true
-    power_parts (Value-F.Tuple vs) h = (and_parts (length vs == label_count labels) (list_all (check_at (map f qs) 0) vs) h).1
+    power_parts : (x : Value-F Value) → fits_level (Power labels) (map f qs) x ≡ true
+        → list_all (check_at (map f qs) 0) (parts_in x) ≡ true
+    power_parts (Value-F.Tuple vs) h = (and_parts (length vs == label_count labels)
+        (list_all (check_at (map f qs) 0) vs) h).1
     power_parts (Value-F.Set vs) h = wrong h
     power_parts (Value-F.State i) h = wrong h
     power_parts (Value-F.Label i) h = wrong h
@@ -156,7 +180,8 @@ module _ (f : ℕ → Check) (B : Value → Bool) (qs : List ℕ) (p : ℕ) (v :
   children_good State other h = absurd (other refl)
   children_good (Constant labels) other h = none_good f B qs
   children_good Naturals other h = none_good f B qs
-  children_good Product other h = zip_good f B qs qs (parts v) (λ q c. c) (product_parts (out-Value v) h) in_parts
+  children_good Product other h = zip_good f B qs qs (parts v) (λ q c. c)
+      (product_parts (out-Value v) h) in_parts
   children_good Sum other h =
       at_good f B qs (index v) (inner v ∷ [])
       (and_from (check_at (map f qs) (index v) (inner v)) true (sum_part (out-Value v) h) refl)

@@ -37,7 +37,8 @@ take_first [] ys (suc i) h = absurd (omega arith)
 take_first (x ∷ xs) ys zero h = refl
 take_first (x ∷ xs) ys (suc i) h = ap (λ l. x ∷ l) (take_first xs ys i (omega arith))
 
-pub targets_count : (t : Nodes) (n : ℕ) (kids : List Place) → length (targets_of t n kids) ≡ length kids
+pub targets_count : (t : Nodes) (n : ℕ) (kids : List Place)
+    → length (targets_of t n kids) ≡ length kids
 targets_count t n [] = refl
 targets_count t n (x ∷ xs) = by (λ m. targets_count t m xs) (is_state_at t x)
   where

@@ -145,12 +145,15 @@ module _ (t : Nodes) (names : List (List ℕ)) where
       record {
         denominator = rest.denominator;
         stage =
-            ap (λ o. option_map_or (λ j. bounded j rows (fitteds texts all.1)) o (Err n)) here.joined
+            ap (λ o. option_map_or (λ j. bounded j rows (fitteds texts all.1)) o (Err n))
+            here.joined
             ∙ rest.stage;
         of_first = dvd_trans m here.of_first rest.of_first;
         of_eight = rest.of_eight;
-        multiple =
-            (all_more k rest.denominator rest.of_first (denominators f) here.multiple, rest.multiple);
+        multiple = (
+          all_more k rest.denominator rest.of_first (denominators f) here.multiple,
+          rest.multiple,
+        );
       }
 
   none_short : (l n : ℕ) → 1 ≤ l → (heads texts : List (List ℕ)) (all : AllByRecursion Good texts)
@@ -160,7 +163,8 @@ module _ (t : Nodes) (names : List (List ℕ)) where
   none_short l n some [] (text ∷ texts) all m = refl
   none_short l n some (h ∷ heads) [] all m = refl
   none_short l n some (h ∷ heads) (text ∷ texts) all m =
-      ap (λ b. if b then summed t l (rows_from (n + 1) heads (trees texts all.1)) (fitteds texts all.1)
+      ap (λ b. if b then summed t l (rows_from (n + 1) heads (trees texts all.1))
+      (fitteds texts all.1)
       else Some n) (all.0.sums l some m.0)
       ∙ none_short l (n + 1) some heads texts all.1 m.1
 

@@ -73,7 +73,8 @@ module _ (m a b p r q : ℕ) where
   scaled_es l = scaled_entries l Distribution (scaled l t 3) es
 
   inner_scaled : (l : ℕ) → scaled l t 2 inner ≡ value.Weights (scaled_es l)
-  inner_scaled l = ap (scaled_level l Distribution (map (scaled l t) (3 ∷ []))) (shown.outs-Weights es)
+  inner_scaled l = ap (scaled_level l Distribution (map (scaled l t) (3 ∷ [])))
+      (shown.outs-Weights es)
 
   whole_scaled : (l : ℕ)
       → scaled l t 0 whole

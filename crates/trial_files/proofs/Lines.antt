@@ -69,7 +69,8 @@ name_unskipped (b ∷ name) more is =
 abbrev pub lines_with : List (List ℕ) → List (List ℕ) → List ℕ
 lines_with [] texts = []
 lines_with (name ∷ names) [] = []
-lines_with (name ∷ names) (text ∷ texts) = (paired name text ++ codes "\n") ++ lines_with names texts
+lines_with (name ∷ names) (text ∷ texts) = (paired name text ++ codes "\n") ++ lines_with names
+    texts
 
 -- rows with these heads and trees, the first at line n
 abbrev pub rows_from : ℕ → List (List ℕ) → List Tree → List Row
@@ -97,7 +98,8 @@ line_spelled name text u named is =
     )
 
 -- lines are the rows of their names and trees
-pub rows-spelled : (n : ℕ) (names texts : List (List ℕ)) (us : List Tree) → AllByRecursion IsName names
+pub rows-spelled : (n : ℕ) (names texts : List (List ℕ)) (us : List Tree)
+    → AllByRecursion IsName names
     → AllZip (IsTextOf 64) texts us → length texts ≡ length names
     → AllZip IsRowOf (lines_from n (lines_with names texts)) (rows_from n names us)
 rows-spelled n [] texts us named all l = tt

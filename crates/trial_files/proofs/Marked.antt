@@ -94,7 +94,8 @@ module _ (size : ℕ) (few : size ≤ 200000) where
 
   marked_fine : (g : Fit) (m : ℕ) (text : List ℕ) (u : Tree) (x : Fitted) → IsInner g text u x
       → IsFine 8 (marked_fitted m x)
-  marked_fine g m text u x is = tuple-fine 8 (fitted.Label m ∷ x ∷ []) (label-fine 8 m, (is.fine, tt))
+  marked_fine g m text u x is = tuple-fine 8 (fitted.Label m ∷ x ∷ [])
+      (label-fine 8 m, (is.fine, tt))
 
   -- ---- a mark, and targets with weights
 
@@ -193,7 +194,8 @@ module _ (size : ℕ) (few : size ≤ 200000) where
   -- ---- a mark, and a target by each of two letters
 
   abbrev end_entry : ℕ → ℕ → Entry
-  end_entry label target = entry (tree.Word (letter_text label)) (Some (tree.Word (name_text target)))
+  end_entry label target = entry (tree.Word (letter_text label))
+      (Some (tree.Word (name_text target)))
 
   end_piece : (n label target : ℕ) → label < 2 → target < size
       → IsPieceOf (SpellsEntry (SpellsWithin n)) (end_text label target) (end_entry label target)
@@ -208,7 +210,8 @@ module _ (size : ℕ) (few : size ≤ 200000) where
   end_short : (label target : ℕ) → target < size → length (end_text label target) ≤ 12
   end_short label target h = by (name_text target) (state_short size few target h)
     where
-      by : (name : List ℕ) → length name ≤ 7 → length (letter_text label ++ (codes ": " ++ name)) ≤ 12
+      by : (name : List ℕ) → length name ≤ 7 → length (letter_text label ++ (codes ": " ++ name))
+          ≤ 12
       by name k = omega (arith, k)
 
   ends_inner : (a b : ℕ) → a < size → b < size

@@ -53,7 +53,8 @@ module _ (size : ℕ) (few : size ≤ 200000) where
   move_reads p h =
       pair-reads (label_fit three_letters) states (tree.Word (letter_text p.0))
       (tree.Word (name_text p.1)) (fitted.Label p.0) (fitted.State p.1)
-      (label-reads three_letters (letter_text p.0) p.0 (letter-is p.0 h.0).1) (state_reads size few p.1 h.1)
+      (label-reads three_letters (letter_text p.0) p.0 (letter-is p.0 h.0).1)
+      (state_reads size few p.1 h.1)
 
   move_pieces : (ps : List (ℕ × ℕ)) → AllByRecursion (IsMove size) ps
       → AllZip (IsPieceOf (SpellsEntry (SpellsWithin 63))) (map move_text ps)
@@ -85,7 +86,12 @@ module _ (size : ℕ) (few : size ≤ 200000) where
     where
       short : (name : List ℕ) → length name ≤ 7
           → length (in_parentheses (listed (letter_text p.0 ∷ name ∷ []))) ≤ 12
-      short name h = omega (arith, h, length-append ((codes ", " ++ name) ++ []) (codes ")"), length-append (codes ", " ++ name) [])
+      short name h = omega (
+        arith,
+        h,
+        length-append ((codes ", " ++ name) ++ []) (codes ")"),
+        length-append (codes ", " ++ name) [],
+      )
 
   moves_pass : (l : ℕ) (v : Value) → sums_hold are_any l (term_of Lts) 0 v ≡ true
   moves_pass l v =
@@ -105,7 +111,14 @@ module _ (size : ℕ) (few : size ≤ 200000) where
         tree = tree.Braces (map alone us);
         fitted = fitted.Set xs;
         piece = braces-text 63 texts (map alone us) (move_pieces ps all);
-        short = omega (arith, short, counted move_text ps, count, length-append (listed texts) (codes "}"));
+        short = omega (
+          arith,
+          short,
+          counted move_text ps,
+          count,
+          length-append (listed texts)
+              (codes "}"),
+        );
         read = set-reads move_fit us xs (moves_read ps all);
         over = fine.0;
         divides = fine.1;

@@ -28,7 +28,8 @@ pub name-is : (i : ℕ) → i ≤ 200000 → IsName (name_text i)
 name-is i small =
     let is = decimal-is i (wide i small) in
     let some : 0 < length (115 ∷ decimal i) = omega arith in
-    let bytes : list_all is_word_byte (115 ∷ decimal i) ≡ true = digit-bytes (decimal i) is.digits in
+    let bytes : list_all is_word_byte (115 ∷ decimal i) ≡ true = digit-bytes (decimal i)
+    is.digits in
     ((some, bytes), λ e. first (decimal i) e)
   where
     first : (ds : List ℕ) → 115 ∷ ds ≡ inj_word → ⊥
@@ -64,14 +65,20 @@ other_names i j less hj = by (is_same_word (name_text i) (name_text j)) refl
 all_other : (i k n : ℕ) → i < k → k + n ≤ 200000
     → AllByRecursion (λ y. is_same_word (name_text i) y ≡ false) (names_from k n)
 all_other i k zero less h = tt
-all_other i k (suc n) less h =
-    (other_names i k less (omega (arith, h)), all_other i (k + 1) n (omega (arith, less)) (omega (arith, h)))
+all_other i k (suc n) less h = (
+  other_names i k less (omega (arith, h)),
+  all_other i (k + 1) n (omega (arith, less))
+      (omega (arith, h)),
+)
 
 distinct_from : (i n : ℕ) → i + n ≤ 200000 → IsDistinct is_same_word (names_from i n)
 unfolding IsDistinct
 distinct_from i zero h = tt
-distinct_from i (suc n) h =
-    (all_other i (i + 1) n (omega arith) (omega (arith, h)), distinct_from (i + 1) n (omega (arith, h)))
+distinct_from i (suc n) h = (
+  all_other i (i + 1) n (omega arith) (omega (arith, h)),
+  distinct_from (i + 1) n
+      (omega (arith, h)),
+)
 
 each_name : (i n : ℕ) → i + n ≤ 200000 → AllByRecursion IsName (names_from i n)
 each_name i zero h = tt
@@ -108,7 +115,8 @@ pub name-placed : (n i : ℕ) → n ≤ 200000 → i < n
 name-placed n i few h =
     let count : length (names_from 0 n) ≡ n = names-count 0 n in
     let named = word-is (names_from 0 n) (names-are n few) i (omega (arith, count, h)) in
-    let same : word_at (names_from 0 n) i ≡ name_text i = name_at 0 n i h ∙ ap name_text (none_plus i) in
+    let same : word_at (names_from 0 n) i ≡ name_text i = name_at 0 n i h
+    ∙ ap name_text (none_plus i) in
     subst (λ (w : List ℕ). place_of w (names_from 0 n) ≡ Some i) same named.1
   where
     none_plus : (i : ℕ) → 0 + i ≡ i

@@ -127,15 +127,18 @@ module _ (t : Nodes) (is : IsTerm t) (b : List ℕ) where
           by (Value-F.Set vs) o =
               let q : v ≡ value.Set vs = same_value v (value.Set vs) (o ∙ sym (outs-Set vs)) in
               let us = each_form vs (members_ready t is p h (node_at t p) refl b v ready vs q) in
-              let rs = set-exists (child_form t p 0).compare (child-total t (children_at t p) 0) us.0 in (
+              let rs = set-exists (child_form t p 0).compare (child-total t (children_at t p) 0)
+              us.0 in (
                 value.Set rs.0,
                 at_members t is p h (node_at t p) refl b v ready vs us.0 rs.0 q us.1 rs.1,
               )
           by (Value-F.Weights vs) o =
               let q : v ≡ value.Weights vs =
               same_value v (value.Weights vs) (o ∙ sym (outs-Weights vs)) in
-              let us = entry_forms vs (entries_are_ready t is p h (node_at t p) refl b v ready vs q) in
-              let rs = totals-exist (child_form t p 0).compare (child-total t (children_at t p) 0) us.0 in (
+              let us = entry_forms vs (entries_are_ready t is p h (node_at t p) refl b v ready vs
+              q) in
+              let rs = totals-exist (child_form t p 0).compare (child-total t (children_at t p) 0)
+              us.0 in (
                 value.Weights rs.0,
                 at_entries t is p h (node_at t p) refl b v ready vs us.0 rs.0 q us.1 rs.1,
               )

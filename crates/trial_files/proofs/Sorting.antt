@@ -14,7 +14,8 @@ use Rattle.typing.proofs.InOrder.{IsSetOf-sorted, IsTotalOf-sorted}
 use Rattle.typing.proofs.Tests.{all_from_each}
 use Rattle.typing.proofs.Totals.{any_number, sum-IsMonoid}
 
-module _ {X : Type 0} (lt : X → X → Bool) (one_way : (x y : X) → lt x y ≡ true → lt y x ≡ false) where
+module _ {X : Type 0} (lt : X → X → Bool) (one_way : (x y : X) → lt x y ≡ true
+    → lt y x ≡ false) where
   -- an element before the first that is not below it
   abbrev put_in : X → List X → List X
   put_in x [] = x ∷ []

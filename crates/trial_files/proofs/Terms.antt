@@ -42,7 +42,8 @@ abbrev pub term_of : TrialKind → Nodes
 term_of kind = placed 0 (part_of kind).0
 
 pub functor-spelled : (kind : TrialKind) → SpellsTerm (functor_text kind) (term_of kind)
-unfolding items_from words_at powers_from prefix_at power_at product_at sum_at inside_at part_at signs_at
+unfolding items_from words_at powers_from prefix_at power_at product_at sum_at inside_at part_at
+    signs_at
 functor-spelled Lts = term-spelled (functor_text Lts) (part_of Lts) refl
 functor-spelled Chain = term-spelled (functor_text Chain) (part_of Chain) refl
 functor-spelled Sums = term-spelled (functor_text Sums) (part_of Sums) refl

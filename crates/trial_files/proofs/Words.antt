@@ -112,7 +112,8 @@ each_weighted m f (p ∷ ps) (x ∷ xs) all =
     (λ i. found (one i) (λ y. made (λ ys. y ∷ ys) (each_weighted m f ps xs all.1 i)))
 
 -- each entry has a weight, at distributions and at integers
-all_weighted : (m : Node) → ((e : Entry) (u : Tree) → weight_tree e ≡ Some u → has_weight m e ≡ true)
+all_weighted : (m : Node) → ((e : Entry) (u : Tree) → weight_tree e ≡ Some u
+    → has_weight m e ≡ true)
     → (ps : List (Tree × List ℕ)) → list_all (has_weight m) (map weighted ps) ≡ true
 all_weighted m h [] = refl
 all_weighted m h (p ∷ ps) =
@@ -125,7 +126,8 @@ pub weights-read : (m : Node)
     (ps : List (Tree × List ℕ)) (xs : List (Fitted × Weight)) → AllZip (DenotesWeight m f) ps xs
     → weights_fit m (f ∷ []) (tree.Braces (map weighted ps)) ≡ Ok (fitted.Weights xs)
 weights-read m h f ps xs all =
-    ap (λ o. needs o WrongShape (weights_of m f)) (ap entries_in (trees.outs-Braces (map weighted ps)))
+    ap (λ o. needs o WrongShape (weights_of m f))
+    (ap entries_in (trees.outs-Braces (map weighted ps)))
     ∙ (λ i. demands (all_weighted m h ps i) WrongShape
     (made fitted.Weights (each_weighted m f ps xs all i)))
 
@@ -187,7 +189,8 @@ set-fine l fs all = (
 
 -- the same of an entry and its weight
 abbrev pub IsFineEntry : ℕ → Fitted × Weight → Type 0
-IsFineEntry l e = IsFine l e.0 × (is_over e.1 ≡ false) × AllByRecursion (λ q. q ∣ l) (denominator_of e.1)
+IsFineEntry l e = IsFine l e.0 × (is_over e.1 ≡ false) × AllByRecursion (λ q. q ∣ l)
+    (denominator_of e.1)
 
 none_over_entries : (l : ℕ) (es : List (Fitted × Weight)) → AllByRecursion (IsFineEntry l) es
     → list_any (λ (e : Bool × Weight). e.0 || is_over e.1)

@@ -9,7 +9,8 @@ turned : (x : ℕ) → x * multiplier ≡ multiplier * x
 turned x = omega arith
 
 -- a product and a sum that wrap, each by itself
-pub next-wraps : (x : ℕ) → (x * 6364136223846793005 % 2 ^ 64 + 1442695040888963407) % 2 ^ 64 ≡ next x
+pub next-wraps : (x : ℕ) → (x * 6364136223846793005 % 2 ^ 64 + 1442695040888963407) % 2 ^ 64
+    ≡ next x
 unfolding next
 next-wraps x =
     wrapped (x * 6364136223846793005) 1442695040888963407

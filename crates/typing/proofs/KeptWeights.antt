@@ -140,7 +140,8 @@ module _ (n : ℕ) where
       by (Value-F.Weights es) h =
           let p = and_parts (list_all (λ (e : Bool × ℤ). e.0) (tested es))
           (nat_le (sum_by (λ (e : Bool × ℤ). unsigned_abs e.1) (tested es)) n) h in (
-            sym (list_all-map (λ (e : Bool × ℤ). e.0) (λ (e : Value × ℤ). (is_within n e.0, e.1)) es)
+            sym (list_all-map (λ (e : Bool × ℤ). e.0) (λ (e : Value × ℤ). (is_within n e.0, e.1))
+                es)
                 ∙ p.0,
             sym (ap (λ k. nat_le k n) (tested_sum es)) ∙ p.1,
           )

@@ -19,7 +19,8 @@ mapped b (Value-F.Inj k v) = Value-F.Inj k (relabelled b v)
 mapped b (Value-F.Set vs) = Value-F.Set (map (relabelled b) vs)
 mapped b (Value-F.Weights es) = Value-F.Weights (map (λ e. (relabelled b e.0, e.1)) es)
 
-step_out : (b : List ℕ) (x : Value-F Value) → out-Value (relabelled_step b (map-Value Value Value (relabelled b) x)) ≡ mapped b x
+step_out : (b : List ℕ) (x : Value-F Value)
+    → out-Value (relabelled_step b (map-Value Value Value (relabelled b) x)) ≡ mapped b x
 step_out b (Value-F.State i) = outs-State (slice_index b i)
 step_out b (Value-F.Label n) = out-roll-Value (mapped b (Value-F.Label n))
 step_out b (Value-F.Tuple vs) = out-roll-Value (mapped b (Value-F.Tuple vs))
@@ -64,10 +65,12 @@ inner_map b v = ap (inner_in (relabelled b v)) (out_map b v) ∙ by (out-Value v
     by (Value-F.Inj k w) = refl
     by (Value-F.Weights es) = refl
 
-pub entries_map : (b : List ℕ) (v : Value) → entries (relabelled b v) ≡ map (λ e. (relabelled b e.0, e.1)) (entries v)
+pub entries_map : (b : List ℕ) (v : Value)
+    → entries (relabelled b v) ≡ map (λ e. (relabelled b e.0, e.1)) (entries v)
 entries_map b v = ap entries_in (out_map b v) ∙ by (out-Value v)
   where
-    by : (x : Value-F Value) → entries_in (mapped b x) ≡ map (λ e. (relabelled b e.0, e.1)) (entries_in x)
+    by : (x : Value-F Value) → entries_in (mapped b x) ≡ map (λ e. (relabelled b e.0, e.1))
+        (entries_in x)
     by (Value-F.Tuple vs) = refl
     by (Value-F.Set vs) = refl
     by (Value-F.State i) = refl
@@ -86,7 +89,8 @@ label_map b v = ap label_in (out_map b v) ∙ by (out-Value v)
     by (Value-F.Inj k v) = refl
     by (Value-F.Weights es) = refl
 
-pub state_map : (b : List ℕ) (v : Value) → state (relabelled b v) ≡ option_map (slice_index b) (state v)
+pub state_map : (b : List ℕ) (v : Value)
+    → state (relabelled b v) ≡ option_map (slice_index b) (state v)
 state_map b v = ap state_in (out_map b v) ∙ by (out-Value v)
   where
     by : (x : Value-F Value) → state_in (mapped b x) ≡ option_map (slice_index b) (state_in x)
@@ -107,10 +111,12 @@ layer_below n x = below_step n (map-Value Value Bool (states_below n) x)
 pub below_out : (n : ℕ) (v : Value) → states_below n v ≡ layer_below n (out-Value v)
 below_out n v = fold_out-Value Bool (below_step n) v
 
-pub parts_below : (n : ℕ) (v : Value) → states_below n v ≡ true → list_all (states_below n) (parts v) ≡ true
+pub parts_below : (n : ℕ) (v : Value) → states_below n v ≡ true
+    → list_all (states_below n) (parts v) ≡ true
 parts_below n v h = by (out-Value v) (sym (below_out n v) ∙ h)
   where
-    by : (x : Value-F Value) → layer_below n x ≡ true → list_all (states_below n) (parts_in x) ≡ true
+    by : (x : Value-F Value) → layer_below n x ≡ true
+        → list_all (states_below n) (parts_in x) ≡ true
     by (Value-F.Tuple vs) h = sym (list_all-map (λ b. b) (states_below n) vs) ∙ h
     by (Value-F.Set vs) h = sym (list_all-map (λ b. b) (states_below n) vs) ∙ h
     by (Value-F.State i) h = refl
@@ -129,18 +135,22 @@ inner_below n v h = by (out-Value v) (sym (below_out n v) ∙ h)
     by (Value-F.Inj k v) e = e
     by (Value-F.Weights es) e = h
 
-pub entries_below : (n : ℕ) (v : Value) → states_below n v ≡ true → list_all (λ e. states_below n e.0) (entries v) ≡ true
+pub entries_below : (n : ℕ) (v : Value) → states_below n v ≡ true
+    → list_all (λ e. states_below n e.0) (entries v) ≡ true
 entries_below n v h = by (out-Value v) (sym (below_out n v) ∙ h)
   where
-    by : (x : Value-F Value) → layer_below n x ≡ true → list_all (λ e. states_below n e.0) (entries_in x) ≡ true
+    by : (x : Value-F Value) → layer_below n x ≡ true
+        → list_all (λ e. states_below n e.0) (entries_in x) ≡ true
     by (Value-F.Tuple vs) h = refl
     by (Value-F.Set vs) h = refl
     by (Value-F.State i) h = refl
     by (Value-F.Label k) h = refl
     by (Value-F.Inj k v) h = refl
-    by (Value-F.Weights es) h = sym (list_all-map (λ (e : Bool × ℤ). e.0) (λ (e : Value × ℤ). (states_below n e.0, e.1)) es) ∙ h
+    by (Value-F.Weights es) h = sym (list_all-map (λ (e : Bool × ℤ). e.0)
+        (λ (e : Value × ℤ). (states_below n e.0, e.1)) es) ∙ h
 
-pub state_within : (n : ℕ) (v : Value) → states_below n v ≡ true → (i : ℕ) → state v ≡ Some i → i < n
+pub state_within : (n : ℕ) (v : Value) → states_below n v ≡ true → (i : ℕ) → state v ≡ Some i
+    → i < n
 state_within n v h = by (out-Value v) (sym (below_out n v) ∙ h)
   where
     by : (x : Value-F Value) → layer_below n x ≡ true → (i : ℕ) → state_in x ≡ Some i → i < n

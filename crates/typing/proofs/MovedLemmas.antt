@@ -10,15 +10,27 @@ use Rattle.typing.specs.Values.{parts, parts_in, entries_in, relabelled, states_
 use Rattle.typing.proofs.MapLaws.{parts_below, entries_below, mapped, out_map}
 use Rattle.typing.proofs.StableLaws.{each_of}
 
-pub tuple_below : (n : ℕ) (v : Value) (vs : List Value) → v ≡ value.Tuple vs → states_below n v ≡ true → list_all (states_below n) vs ≡ true
-tuple_below n v vs e h = subst (λ (us : List Value). list_all (states_below n) us ≡ true) (ap parts e ∙ ap parts_in (outs-Tuple vs)) (parts_below n v h)
+pub tuple_below : (n : ℕ) (v : Value) (vs : List Value) → v ≡ value.Tuple vs
+    → states_below n v ≡ true → list_all (states_below n) vs ≡ true
+tuple_below n v vs e h = subst (λ (us : List Value). list_all (states_below n) us ≡ true)
+    (ap parts e ∙ ap parts_in (outs-Tuple vs)) (parts_below n v h)
 
-pub set_below : (n : ℕ) (v : Value) (vs : List Value) → v ≡ value.Set vs → states_below n v ≡ true → list_all (states_below n) vs ≡ true
-set_below n v vs e h = subst (λ (us : List Value). list_all (states_below n) us ≡ true) (ap parts e ∙ ap parts_in (outs-Set vs)) (parts_below n v h)
+pub set_below : (n : ℕ) (v : Value) (vs : List Value) → v ≡ value.Set vs → states_below n v ≡ true
+    → list_all (states_below n) vs ≡ true
+set_below n v vs e h = subst (λ (us : List Value). list_all (states_below n) us ≡ true) (ap parts e
+    ∙ ap parts_in (outs-Set vs)) (parts_below n v h)
 
-pub entry_below : (n : ℕ) (v : Value) (es : List (Value × ℤ)) (i : ℕ) (e : Value × ℤ) → out-Value v ≡ Value-F.Weights es → states_below n v ≡ true → i < length es → e ≡ get_or es i e → states_below n e.0 ≡ true
+pub entry_below : (n : ℕ) (v : Value) (es : List (Value × ℤ)) (i : ℕ) (e : Value × ℤ)
+    → out-Value v ≡ Value-F.Weights es → states_below n v ≡ true → i < length es → e ≡ get_or es i e
+    → states_below n e.0 ≡ true
 entry_below n v es i e o h below is =
-    each_of (λ (w : Value × ℤ). states_below n w.0) es (subst (λ (ws : List (Value × ℤ)). list_all (λ w. states_below n w.0) ws ≡ true) (ap entries_in o) (entries_below n v h)) i e (slice_get_read es (length es) i e refl below is)
+    each_of (λ (w : Value × ℤ). states_below n w.0) es
+    (subst (λ (ws : List (Value × ℤ)). list_all (λ w. states_below n w.0) ws ≡ true)
+    (ap entries_in o) (entries_below n v h)) i e (slice_get_read es (length es) i e refl below
+    is)
 
-pub weights_made : (b : List ℕ) (v : Value) (es : List (Value × ℤ)) → out-Value v ≡ Value-F.Weights es → value.Weights (map (λ e. (relabelled b e.0, e.1)) es) ≡ relabelled b v
-weights_made b v es o = sym (rolls-Weights (map (λ e. (relabelled b e.0, e.1)) es)) ∙ ap roll-Value (sym (out_map b v ∙ ap (mapped b) o)) ∙ roll-out-Value (relabelled b v)
+pub weights_made : (b : List ℕ) (v : Value) (es : List (Value × ℤ))
+    → out-Value v ≡ Value-F.Weights es → value.Weights (map (λ e. (relabelled b e.0, e.1)) es)
+    ≡ relabelled b v
+weights_made b v es o = sym (rolls-Weights (map (λ e. (relabelled b e.0, e.1)) es))
+    ∙ ap roll-Value (sym (out_map b v ∙ ap (mapped b) o)) ∙ roll-out-Value (relabelled b v)

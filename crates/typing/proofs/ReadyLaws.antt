@@ -30,19 +30,33 @@ pub record IsReadyLevel (n : ℕ) (x : Value-F Value) : Type 0 where
 pub ready_check : (n : ℕ) (x : Check) (v : Value) → is_ready n x v ≡ true → x v ≡ true
 ready_check n x v h = (and_parts (x v) (states_below n v && is_bounded v) h).0
 
-pub ready_level : (n : ℕ) (x : Check) (v : Value) (y : Value-F Value) → out-Value v ≡ y → is_ready n x v ≡ true → IsReadyLevel n y
+pub ready_level : (n : ℕ) (x : Check) (v : Value) (y : Value-F Value) → out-Value v ≡ y
+    → is_ready n x v ≡ true → IsReadyLevel n y
 ready_level n x v y o h =
-    let p = and_parts (states_below n v) (is_bounded v) (and_parts (x v) (states_below n v && is_bounded v) h).1 in
-    record { below = ap (layer_below n) (sym o) ∙ sym (below_out n v) ∙ p.0; bounded = ap layer_bounded (sym o) ∙ sym (bounded_out v) ∙ p.1 }
+    let p = and_parts (states_below n v) (is_bounded v)
+    (and_parts (x v) (states_below n v && is_bounded v) h).1 in
+    record {
+      below = ap (layer_below n) (sym o) ∙ sym (below_out n v)
+          ∙ p.0;
+      bounded = ap layer_bounded (sym o) ∙ sym (bounded_out v) ∙ p.1;
+    }
 
-pub ready_from : (n : ℕ) (x : Check) (v : Value) → x v ≡ true → states_below n v ≡ true → is_bounded v ≡ true → is_ready n x v ≡ true
-ready_from n x v a b c = and_from (x v) (states_below n v && is_bounded v) a (and_from (states_below n v) (is_bounded v) b c)
+pub ready_from : (n : ℕ) (x : Check) (v : Value) → x v ≡ true → states_below n v ≡ true
+    → is_bounded v ≡ true → is_ready n x v ≡ true
+ready_from n x v a b c = and_from (x v) (states_below n v && is_bounded v) a
+    (and_from (states_below n v) (is_bounded v) b c)
 
-all_ready : (n : ℕ) (x : Check) (vs : List Value) → list_all x vs ≡ true → list_all (λ b. b) (map (states_below n) vs) ≡ true → list_all (λ b. b) (map is_bounded vs) ≡ true → list_all (is_ready n x) vs ≡ true
+all_ready : (n : ℕ) (x : Check) (vs : List Value) → list_all x vs ≡ true
+    → list_all (λ b. b) (map (states_below n) vs) ≡ true
+    → list_all (λ b. b) (map is_bounded vs) ≡ true → list_all (is_ready n x) vs ≡ true
 all_ready n x vs a b c =
-    all_both x (λ v. states_below n v && is_bounded v) vs a (all_both (states_below n) is_bounded vs (sym (list_all-map (λ b. b) (states_below n) vs) ∙ b) (sym (list_all-map (λ b. b) is_bounded vs) ∙ c))
+    all_both x (λ v. states_below n v && is_bounded v) vs a (all_both (states_below n) is_bounded vs
+    (sym (list_all-map (λ b. b) (states_below n) vs)
+    ∙ b) (sym (list_all-map (λ b. b) is_bounded vs) ∙ c))
 
-pub places_ready : (n : ℕ) (xs : List Check) (vs : List Value) → each_fits xs vs ≡ true → list_all (λ b. b) (map (states_below n) vs) ≡ true → list_all (λ b. b) (map is_bounded vs) ≡ true → each_ready n xs vs ≡ true
+pub places_ready : (n : ℕ) (xs : List Check) (vs : List Value) → each_fits xs vs ≡ true
+    → list_all (λ b. b) (map (states_below n) vs) ≡ true
+    → list_all (λ b. b) (map is_bounded vs) ≡ true → each_ready n xs vs ≡ true
 places_ready n [] [] a b c = refl
 places_ready n [] (v ∷ vs) a b c = a
 places_ready n (x ∷ xs) [] a b c = a
@@ -50,10 +64,12 @@ places_ready n (x ∷ xs) (v ∷ vs) a b c =
     let p = and_parts (x v) (each_fits xs vs) a in
     let q = and_parts (states_below n v) (list_all (λ b. b) (map (states_below n) vs)) b in
     let r = and_parts (is_bounded v) (list_all (λ b. b) (map is_bounded vs)) c in
-    and_from (is_ready n x v) (each_ready n xs vs) (ready_from n x v p.0 q.0 r.0) (places_ready n xs vs p.1 q.1 r.1)
+    and_from (is_ready n x v) (each_ready n xs vs) (ready_from n x v p.0 q.0 r.0)
+    (places_ready n xs vs p.1 q.1 r.1)
 
 module _ (n : ℕ) (xs : List Check) where
-  pub set_ready : (m : Node) (vs : List Value) → fits_level m xs (Value-F.Set vs) ≡ true → IsReadyLevel n (Value-F.Set vs) → list_all (is_ready n (check_at xs 0)) vs ≡ true
+  pub set_ready : (m : Node) (vs : List Value) → fits_level m xs (Value-F.Set vs) ≡ true
+      → IsReadyLevel n (Value-F.Set vs) → list_all (is_ready n (check_at xs 0)) vs ≡ true
   set_ready Powerset vs h r = all_ready n (check_at xs 0) vs h r.below r.bounded
   set_ready State vs h r = absurd (true≢false (sym h))
   set_ready (Constant labels) vs h r = absurd (true≢false (sym h))
@@ -66,8 +82,12 @@ module _ (n : ℕ) (xs : List Check) where
   set_ready Integers vs h r = absurd (true≢false (sym h))
   set_ready Rationals vs h r = absurd (true≢false (sym h))
 
-  pub power_ready : (m : Node) (vs : List Value) → fits_level m xs (Value-F.Tuple vs) ≡ true → (m ≡ Product → ⊥) → IsReadyLevel n (Value-F.Tuple vs) → list_all (is_ready n (check_at xs 0)) vs ≡ true
-  power_ready (Power labels) vs h k r = all_ready n (check_at xs 0) vs (and_parts (length vs == label_count labels) (list_all (check_at xs 0) vs) h).1 r.below r.bounded
+  pub power_ready : (m : Node) (vs : List Value) → fits_level m xs (Value-F.Tuple vs) ≡ true
+      → (m ≡ Product → ⊥) → IsReadyLevel n (Value-F.Tuple vs)
+      → list_all (is_ready n (check_at xs 0)) vs ≡ true
+  power_ready (Power labels) vs h k r = all_ready n (check_at xs 0) vs
+      (and_parts (length vs == label_count labels) (list_all (check_at xs 0) vs) h).1 r.below
+      r.bounded
   power_ready Product vs h k r = absurd (k refl)
   power_ready State vs h k r = absurd (true≢false (sym h))
   power_ready (Constant labels) vs h k r = absurd (true≢false (sym h))
@@ -79,10 +99,12 @@ module _ (n : ℕ) (xs : List Check) where
   power_ready Integers vs h k r = absurd (true≢false (sym h))
   power_ready Rationals vs h k r = absurd (true≢false (sym h))
 
-  pub product_ready : (vs : List Value) → fits_level Product xs (Value-F.Tuple vs) ≡ true → IsReadyLevel n (Value-F.Tuple vs) → each_ready n xs vs ≡ true
+  pub product_ready : (vs : List Value) → fits_level Product xs (Value-F.Tuple vs) ≡ true
+      → IsReadyLevel n (Value-F.Tuple vs) → each_ready n xs vs ≡ true
   product_ready vs h r = places_ready n xs vs h r.below r.bounded
 
-  pub sum_ready : (m : Node) (k : ℕ) (v : Value) → fits_level m xs (Value-F.Inj k v) ≡ true → IsReadyLevel n (Value-F.Inj k v) → is_ready n (check_at xs k) v ≡ true
+  pub sum_ready : (m : Node) (k : ℕ) (v : Value) → fits_level m xs (Value-F.Inj k v) ≡ true
+      → IsReadyLevel n (Value-F.Inj k v) → is_ready n (check_at xs k) v ≡ true
   sum_ready Sum k v h r = ready_from n (check_at xs k) v h r.below r.bounded
   sum_ready State k v h r = absurd (true≢false (sym h))
   sum_ready (Constant labels) k v h r = absurd (true≢false (sym h))
@@ -95,15 +117,25 @@ module _ (n : ℕ) (xs : List Check) where
   sum_ready Integers k v h r = absurd (true≢false (sym h))
   sum_ready Rationals k v h r = absurd (true≢false (sym h))
 
-  entries_ready : (es : List (Value × ℤ)) → list_all (λ e. check_at xs 0 e.0) es ≡ true → IsReadyLevel n (Value-F.Weights es) → list_all (λ e. is_ready n (check_at xs 0) e.0) es ≡ true
+  entries_ready : (es : List (Value × ℤ)) → list_all (λ e. check_at xs 0 e.0) es ≡ true
+      → IsReadyLevel n (Value-F.Weights es) → list_all (λ e. is_ready n (check_at xs 0) e.0) es
+      ≡ true
   entries_ready es h r =
-      let bounded = (and_parts (list_all (λ (e : Bool × ℤ). e.0) (map (λ (e : Value × ℤ). (is_bounded e.0, e.1)) es)) (nat_le (sum_by (λ (e : Bool × ℤ). unsigned_abs e.1) (map (λ (e : Value × ℤ). (is_bounded e.0, e.1)) es)) (2 ^ 126)) r.bounded).0 in
-      all_both (λ (e : Value × ℤ). check_at xs 0 e.0) (λ e. states_below n e.0 && is_bounded e.0) es h
+      let bounded = (and_parts (list_all (λ (e : Bool × ℤ). e.0)
+      (map (λ (e : Value × ℤ). (is_bounded e.0, e.1)) es))
+      (nat_le (sum_by (λ (e : Bool × ℤ). unsigned_abs e.1)
+      (map (λ (e : Value × ℤ). (is_bounded e.0, e.1)) es)) (2 ^ 126)) r.bounded).0 in
+      all_both (λ (e : Value × ℤ). check_at xs 0 e.0) (λ e. states_below n e.0 && is_bounded e.0) es
+      h
       (all_both (λ (e : Value × ℤ). states_below n e.0) (λ e. is_bounded e.0) es
-      (sym (list_all-map (λ (e : Bool × ℤ). e.0) (λ (e : Value × ℤ). (states_below n e.0, e.1)) es) ∙ r.below)
-      (sym (list_all-map (λ (e : Bool × ℤ). e.0) (λ (e : Value × ℤ). (is_bounded e.0, e.1)) es) ∙ bounded))
+      (sym (list_all-map (λ (e : Bool × ℤ). e.0) (λ (e : Value × ℤ). (states_below n e.0, e.1)) es)
+      ∙ r.below)
+      (sym (list_all-map (λ (e : Bool × ℤ). e.0) (λ (e : Value × ℤ). (is_bounded e.0, e.1)) es)
+      ∙ bounded))
 
-  pub weights_ready : (m : Node) (es : List (Value × ℤ)) → fits_level m xs (Value-F.Weights es) ≡ true → IsReadyLevel n (Value-F.Weights es) → list_all (λ e. is_ready n (check_at xs 0) e.0) es ≡ true
+  pub weights_ready : (m : Node) (es : List (Value × ℤ))
+      → fits_level m xs (Value-F.Weights es) ≡ true → IsReadyLevel n (Value-F.Weights es)
+      → list_all (λ e. is_ready n (check_at xs 0) e.0) es ≡ true
   weights_ready Bag es h r = entries_ready es h r
   weights_ready Distribution es h r = entries_ready es h r
   weights_ready Integers es h r = entries_ready es h r
@@ -117,18 +149,29 @@ module _ (n : ℕ) (xs : List Check) where
   weights_ready Powerset es h r = absurd (true≢false (sym h))
 
 -- the bound on a weight list, and on one with the same weights
-sum_of-map : {X Y : Type 0} (f : Y → ℕ) (g : X → Y) (xs : List X) → sum_by f (map g xs) ≡ sum_by (λ x. f (g x)) xs
+sum_of-map : {X Y : Type 0} (f : Y → ℕ) (g : X → Y) (xs : List X)
+    → sum_by f (map g xs) ≡ sum_by (λ x. f (g x)) xs
 sum_of-map f g [] = refl
-sum_of-map f g (x ∷ xs) = sum_by-cons f (g x) (map g xs) ∙ ap (λ n. f (g x) + n) (sum_of-map f g xs) ∙ sym (sum_by-cons (λ x. f (g x)) x xs)
+sum_of-map f g (x ∷ xs) = sum_by-cons f (g x) (map g xs) ∙ ap (λ n. f (g x) + n) (sum_of-map f g xs)
+    ∙ sym (sum_by-cons (λ x. f (g x)) x xs)
 
-pub weights_bound : (n : ℕ) (es : List (Value × ℤ)) → IsReadyLevel n (Value-F.Weights es) → sum_by (λ e. unsigned_abs e.1) es ≤ 2 ^ 126
+pub weights_bound : (n : ℕ) (es : List (Value × ℤ)) → IsReadyLevel n (Value-F.Weights es)
+    → sum_by (λ e. unsigned_abs e.1) es ≤ 2 ^ 126
 weights_bound n es r =
-    let h = (and_parts (list_all (λ (e : Bool × ℤ). e.0) (map (λ (e : Value × ℤ). (is_bounded e.0, e.1)) es)) (nat_le (sum_by (λ (e : Bool × ℤ). unsigned_abs e.1) (map (λ (e : Value × ℤ). (is_bounded e.0, e.1)) es)) (2 ^ 126)) r.bounded).1 in
-    subst (λ k. k ≤ 2 ^ 126) (sum_of-map (λ (e : Bool × ℤ). unsigned_abs e.1) (λ (e : Value × ℤ). (is_bounded e.0, e.1)) es) (leb-true _ _ h)
+    let h = (and_parts (list_all (λ (e : Bool × ℤ). e.0)
+    (map (λ (e : Value × ℤ). (is_bounded e.0, e.1)) es))
+    (nat_le (sum_by (λ (e : Bool × ℤ). unsigned_abs e.1)
+    (map (λ (e : Value × ℤ). (is_bounded e.0, e.1)) es)) (2 ^ 126)) r.bounded).1 in
+    subst (λ k. k ≤ 2 ^ 126) (sum_of-map (λ (e : Bool × ℤ). unsigned_abs e.1)
+    (λ (e : Value × ℤ). (is_bounded e.0, e.1)) es) (leb-true _ _ h)
 
-pub bound_kept : (R : Value × ℤ → Value × ℤ → Type 0) → ((v r : Value × ℤ) → R v r → r.1 ≡ v.1) → (vs rs : List (Value × ℤ)) → AllZip R vs rs → sum_by (λ e. unsigned_abs e.1) rs ≡ sum_by (λ e. unsigned_abs e.1) vs
+pub bound_kept : (R : Value × ℤ → Value × ℤ → Type 0) → ((v r : Value × ℤ) → R v r → r.1 ≡ v.1)
+    → (vs rs : List (Value × ℤ)) → AllZip R vs rs
+    → sum_by (λ e. unsigned_abs e.1) rs ≡ sum_by (λ e. unsigned_abs e.1) vs
 bound_kept R k [] [] z = refl
 bound_kept R k [] (r ∷ rs) z = absurd z
 bound_kept R k (v ∷ vs) [] z = absurd z
 bound_kept R k (v ∷ vs) (r ∷ rs) z =
-    sum_by-cons (λ (e : Value × ℤ). unsigned_abs e.1) r rs ∙ (λ i. unsigned_abs (k v r z.0 i) + bound_kept R k vs rs z.1 i) ∙ sym (sum_by-cons (λ (e : Value × ℤ). unsigned_abs e.1) v vs)
+    sum_by-cons (λ (e : Value × ℤ). unsigned_abs e.1) r rs
+    ∙ (λ i. unsigned_abs (k v r z.0 i) + bound_kept R k vs rs z.1 i)
+    ∙ sym (sum_by-cons (λ (e : Value × ℤ). unsigned_abs e.1) v vs)

@@ -21,7 +21,8 @@ use Rattle.typing.proofs.RelabelLaws.{node_relabelled, node_fits, state_step, la
 use Rattle.typing.proofs.ReadyLaws.{IsReadyLevel, ready_check, ready_level, set_ready, power_ready, product_ready, sum_ready, weights_ready, weights_bound, bound_kept}
 use Rattle.typing.proofs.TermFacts.{form_found, check_found, test_found}
 
-module _ (t : Nodes) (is : IsTerm t) (p : ℕ) (h : p < length t) (m : Node) (e : m ≡ node_at t p) (b : List ℕ) (v : Value) (ready : is_ready (length b) (fits t p) v ≡ true) where
+module _ (t : Nodes) (is : IsTerm t) (p : ℕ) (h : p < length t) (m : Node) (e : m ≡ node_at t p)
+    (b : List ℕ) (v : Value) (ready : is_ready (length b) (fits t p) v ≡ true) where
   abbrev xs : List Check
   xs = map (fits t) (children_at t p)
 
@@ -37,55 +38,98 @@ module _ (t : Nodes) (is : IsTerm t) (p : ℕ) (h : p < length t) (m : Node) (e 
   level : (x : Value-F Value) → out-Value v ≡ x → IsReadyLevel (length b) x
   level x o = ready_level (length b) (fits t p) v x o ready
 
-  pub at_state : (i : ℕ) → v ≡ value.State i → i < length b → IsRelabelledAt t b p v (value.State (slice_index b i))
-  at_state i q inside = node_relabelled t is p h m e b v (value.State (slice_index b i)) (state_step b xs fs (map (are_equal t) (children_at t p)) m v i (ap out-Value q ∙ outs-State i) step_fits inside)
+  pub at_state : (i : ℕ) → v ≡ value.State i → i < length b
+      → IsRelabelledAt t b p v (value.State (slice_index b i))
+  at_state i q inside = node_relabelled t is p h m e b v (value.State (slice_index b i))
+      (state_step b xs fs (map (are_equal t) (children_at t p)) m v i (ap out-Value q
+      ∙ outs-State i) step_fits inside)
 
   pub at_label : (n : ℕ) → v ≡ value.Label n → IsRelabelledAt t b p v (value.Label n)
-  at_label n q = node_relabelled t is p h m e b v (value.Label n) (label_step b xs fs (map (are_equal t) (children_at t p)) m v n (ap out-Value q ∙ outs-Label n) step_fits)
+  at_label n q = node_relabelled t is p h m e b v (value.Label n)
+      (label_step b xs fs (map (are_equal t) (children_at t p)) m v n (ap out-Value q
+      ∙ outs-Label n) step_fits)
 
-  pub inner_ready : (k : ℕ) (w : Value) → v ≡ value.Inj k w → is_ready (length b) (child_check t p k) w ≡ true
-  inner_ready k w q = let o = ap out-Value q ∙ outs-Inj k w in sum_ready (length b) xs m k w (level_fits (Value-F.Inj k w) o) (level (Value-F.Inj k w) o)
+  pub inner_ready : (k : ℕ) (w : Value) → v ≡ value.Inj k w
+      → is_ready (length b) (child_check t p k) w ≡ true
+  inner_ready k w q = let o = ap out-Value q ∙ outs-Inj k w in
+      sum_ready (length b) xs m k w (level_fits (Value-F.Inj k w) o) (level (Value-F.Inj k w) o)
 
-  pub at_inner : (k : ℕ) (w s : Value) → v ≡ value.Inj k w → IsRelabelledChild t b p k w s → IsRelabelledAt t b p v (value.Inj k s)
-  at_inner k w s q c = node_relabelled t is p h m e b v (value.Inj k s) (sum_step b xs fs (map (are_equal t) (children_at t p)) m v k w s (ap out-Value q ∙ outs-Inj k w) step_fits c)
+  pub at_inner : (k : ℕ) (w s : Value) → v ≡ value.Inj k w → IsRelabelledChild t b p k w s
+      → IsRelabelledAt t b p v (value.Inj k s)
+  at_inner k w s q c = node_relabelled t is p h m e b v (value.Inj k s)
+      (sum_step b xs fs (map (are_equal t) (children_at t p)) m v k w s (ap out-Value q
+      ∙ outs-Inj k w) step_fits c)
 
-  pub places_are_ready : (vs : List Value) → v ≡ value.Tuple vs → m ≡ Product → each_ready (length b) xs vs ≡ true
+  pub places_are_ready : (vs : List Value) → v ≡ value.Tuple vs → m ≡ Product
+      → each_ready (length b) xs vs ≡ true
   places_are_ready vs q product =
       let o = ap out-Value q ∙ outs-Tuple vs in
-      product_ready (length b) xs vs (ap (λ n. fits_level n xs (Value-F.Tuple vs)) (sym product) ∙ level_fits (Value-F.Tuple vs) o) (level (Value-F.Tuple vs) o)
+      product_ready (length b) xs vs (ap (λ n. fits_level n xs (Value-F.Tuple vs)) (sym product)
+      ∙ level_fits (Value-F.Tuple vs) o) (level (Value-F.Tuple vs) o)
 
-  pub at_places : (vs rs : List Value) → v ≡ value.Tuple vs → m ≡ Product → Zip3 (IsRelabelledAt t b) (children_at t p) vs rs → IsRelabelledAt t b p v (value.Tuple rs)
-  at_places vs rs q product z = node_relabelled t is p h Product (sym product ∙ e) b v (value.Tuple rs) (product_step b t (children_at t p) v vs rs (ap out-Value q ∙ outs-Tuple vs) z)
+  pub at_places : (vs rs : List Value) → v ≡ value.Tuple vs → m ≡ Product
+      → Zip3 (IsRelabelledAt t b) (children_at t p) vs rs → IsRelabelledAt t b p v (value.Tuple rs)
+  at_places vs rs q product z = node_relabelled t is p h Product (sym product
+      ∙ e) b v (value.Tuple rs) (product_step b t (children_at t p) v vs rs (ap out-Value q
+      ∙ outs-Tuple vs) z)
 
-  pub parts_ready : (vs : List Value) → v ≡ value.Tuple vs → (m ≡ Product → ⊥) → list_all (is_ready (length b) (child_check t p 0)) vs ≡ true
-  parts_ready vs q other = let o = ap out-Value q ∙ outs-Tuple vs in power_ready (length b) xs m vs (level_fits (Value-F.Tuple vs) o) other (level (Value-F.Tuple vs) o)
+  pub parts_ready : (vs : List Value) → v ≡ value.Tuple vs → (m ≡ Product → ⊥)
+      → list_all (is_ready (length b) (child_check t p 0)) vs ≡ true
+  parts_ready vs q other = let o = ap out-Value q ∙ outs-Tuple vs in
+      power_ready (length b) xs m vs (level_fits (Value-F.Tuple vs) o) other
+      (level (Value-F.Tuple vs) o)
 
-  pub at_parts : (vs rs : List Value) → v ≡ value.Tuple vs → (m ≡ Product → ⊥) → AllZip (IsRelabelledChild t b p 0) vs rs → IsRelabelledAt t b p v (value.Tuple rs)
-  at_parts vs rs q other z = node_relabelled t is p h m e b v (value.Tuple rs) (power_step b xs fs (map (are_equal t) (children_at t p)) m v vs rs (ap out-Value q ∙ outs-Tuple vs) step_fits other z)
+  pub at_parts : (vs rs : List Value) → v ≡ value.Tuple vs → (m ≡ Product → ⊥)
+      → AllZip (IsRelabelledChild t b p 0) vs rs → IsRelabelledAt t b p v (value.Tuple rs)
+  at_parts vs rs q other z = node_relabelled t is p h m e b v (value.Tuple rs)
+      (power_step b xs fs (map (are_equal t) (children_at t p)) m v vs rs (ap out-Value q
+      ∙ outs-Tuple vs) step_fits other z)
 
-  pub members_ready : (vs : List Value) → v ≡ value.Set vs → list_all (is_ready (length b) (child_check t p 0)) vs ≡ true
-  members_ready vs q = let o = ap out-Value q ∙ outs-Set vs in set_ready (length b) xs m vs (level_fits (Value-F.Set vs) o) (level (Value-F.Set vs) o)
+  pub members_ready : (vs : List Value) → v ≡ value.Set vs
+      → list_all (is_ready (length b) (child_check t p 0)) vs ≡ true
+  members_ready vs q = let o = ap out-Value q ∙ outs-Set vs in
+      set_ready (length b) xs m vs (level_fits (Value-F.Set vs) o) (level (Value-F.Set vs) o)
 
-  pub at_members : (vs us rs : List Value) → v ≡ value.Set vs → AllZip (IsRelabelledChild t b p 0) vs us → IsSetOf (child_form t p 0).compare us rs → IsRelabelledAt t b p v (value.Set rs)
+  pub at_members : (vs us rs : List Value) → v ≡ value.Set vs
+      → AllZip (IsRelabelledChild t b p 0) vs us → IsSetOf (child_form t p 0).compare us rs
+      → IsRelabelledAt t b p v (value.Set rs)
   at_members vs us rs q z s =
-      node_relabelled t is p h m e b v (value.Set rs) (set_step b xs fs (map (are_equal t) (children_at t p)) (children_canonical t (children_at t p)) m v vs us rs (ap out-Value q ∙ outs-Set vs) step_fits z s)
+      node_relabelled t is p h m e b v (value.Set rs)
+      (set_step b xs fs (map (are_equal t) (children_at t p))
+      (children_canonical t (children_at t p)) m v vs us rs (ap out-Value q
+      ∙ outs-Set vs) step_fits z s)
 
-  pub entries_are_ready : (vs : List (Value × ℤ)) → v ≡ value.Weights vs → list_all (λ w. is_ready (length b) (child_check t p 0) w.0) vs ≡ true
-  entries_are_ready vs q = let o = ap out-Value q ∙ outs-Weights vs in weights_ready (length b) xs m vs (level_fits (Value-F.Weights vs) o) (level (Value-F.Weights vs) o)
+  pub entries_are_ready : (vs : List (Value × ℤ)) → v ≡ value.Weights vs
+      → list_all (λ w. is_ready (length b) (child_check t p 0) w.0) vs ≡ true
+  entries_are_ready vs q = let o = ap out-Value q ∙ outs-Weights vs in
+      weights_ready (length b) xs m vs (level_fits (Value-F.Weights vs) o)
+      (level (Value-F.Weights vs) o)
 
-  pub entries_bound : (vs us : List (Value × ℤ)) → v ≡ value.Weights vs → AllZip (IsRelabelledEntry t b p) vs us → sum_by (λ w. unsigned_abs w.1) us ≤ 2 ^ 126
+  pub entries_bound : (vs us : List (Value × ℤ)) → v ≡ value.Weights vs
+      → AllZip (IsRelabelledEntry t b p) vs us → sum_by (λ w. unsigned_abs w.1) us ≤ 2 ^ 126
   entries_bound vs us q z =
-      subst (λ n. n ≤ 2 ^ 126) (sym (bound_kept (IsRelabelledEntry t b p) (λ v r c. c.1) vs us z)) (weights_bound (length b) vs (level (Value-F.Weights vs) (ap out-Value q ∙ outs-Weights vs)))
+      subst (λ n. n ≤ 2 ^ 126) (sym (bound_kept (IsRelabelledEntry t b p) (λ v r c. c.1) vs us z))
+      (weights_bound (length b) vs (level (Value-F.Weights vs) (ap out-Value q
+      ∙ outs-Weights vs)))
 
-  pub at_entries : (vs us rs : List (Value × ℤ)) → v ≡ value.Weights vs → AllZip (IsRelabelledEntry t b p) vs us → IsTotalOf (child_form t p 0).compare the_sum us rs → IsRelabelledAt t b p v (value.Weights rs)
+  pub at_entries : (vs us rs : List (Value × ℤ)) → v ≡ value.Weights vs
+      → AllZip (IsRelabelledEntry t b p) vs us → IsTotalOf (child_form t p 0).compare the_sum us rs
+      → IsRelabelledAt t b p v (value.Weights rs)
   at_entries vs us rs q z s =
-      node_relabelled t is p h m e b v (value.Weights rs) (weights_step b xs fs (map (are_equal t) (children_at t p)) (children_canonical t (children_at t p)) m v vs us rs (ap out-Value q ∙ outs-Weights vs) step_fits z s)
+      node_relabelled t is p h m e b v (value.Weights rs)
+      (weights_step b xs fs (map (are_equal t) (children_at t p))
+      (children_canonical t (children_at t p)) m v vs us rs (ap out-Value q
+      ∙ outs-Weights vs) step_fits z s)
 
 -- at the k-th child
-pub child_ready : (t : Nodes) (p k q n : ℕ) (v : Value) → slice_get (children_at t p) k ≡ Some q → is_ready n (child_check t p k) v ≡ true → is_ready n (fits t q) v ≡ true
-child_ready t p k q n v at h = subst (λ (x : Check). is_ready n x v ≡ true) (check_found t (children_at t p) k q at) h
+pub child_ready : (t : Nodes) (p k q n : ℕ) (v : Value) → slice_get (children_at t p) k ≡ Some q
+    → is_ready n (child_check t p k) v ≡ true → is_ready n (fits t q) v ≡ true
+child_ready t p k q n v at h = subst (λ (x : Check). is_ready n x v ≡ true)
+    (check_found t (children_at t p) k q at) h
 
-pub child_relabelled : (t : Nodes) (b : List ℕ) (p k q : ℕ) (v r : Value) → slice_get (children_at t p) k ≡ Some q → IsRelabelledAt t b q v r → IsRelabelledChild t b p k v r
+pub child_relabelled : (t : Nodes) (b : List ℕ) (p k q : ℕ) (v r : Value)
+    → slice_get (children_at t p) k ≡ Some q → IsRelabelledAt t b q v r
+    → IsRelabelledChild t b p k v r
 child_relabelled t b p k q v r at c = record {
   fitting = ap (λ (x : Check). x r) (check_found t (children_at t p) k q at) ∙ c.fitting;
   normal = ap (λ (f : Form). f.is_normal r) (form_found t (children_at t p) k q at) ∙ c.normal;
@@ -99,22 +143,34 @@ got (x ∷ xs) zero h = refl
 got (x ∷ xs) (suc k) h = got xs k (omega arith)
 
 -- the step of a loop over places
-pub places_more : (R : ℕ → Value → Value → Type 0) (q : ℕ) (qs : List ℕ) (v : Value) (vs : List Value) (all : List ℕ) (whole new : List Value) (r : Value)
-    → ((more : List Value) → Zip3 R (q ∷ qs) (v ∷ vs) more → Zip3 R all whole (new ++ more)) → R q v r → (more : List Value) → Zip3 R qs vs more → Zip3 R all whole ((new ++ r ∷ []) ++ more)
-places_more R q qs v vs all whole new r made c more z = subst (λ (l : List Value). Zip3 R all whole l) (sym (append_assoc new (r ∷ []) more)) (made (r ∷ more) (c, z))
+pub places_more : (R : ℕ → Value → Value → Type 0) (q : ℕ) (qs : List ℕ) (v : Value)
+    (vs : List Value) (all : List ℕ) (whole new : List Value) (r : Value)
+    → ((more : List Value) → Zip3 R (q ∷ qs) (v ∷ vs) more → Zip3 R all whole (new ++ more))
+    → R q v r → (more : List Value) → Zip3 R qs vs more
+    → Zip3 R all whole ((new ++ r ∷ []) ++ more)
+places_more R q qs v vs all whole new r made c more z = subst (λ (l : List Value). Zip3 R all whole
+    l) (sym (append_assoc new (r ∷ []) more)) (made (r ∷ more) (c, z))
 
-pub places_done : (R : ℕ → Value → Value → Type 0) (n : ℕ) (t : Nodes) (qs : List ℕ) (vs : List Value) (all : List ℕ) (whole new : List Value) → length qs ≡ 0 → each_ready n (map (fits t) qs) vs ≡ true
-    → ((more : List Value) → Zip3 R qs vs more → Zip3 R all whole (new ++ more)) → Zip3 R all whole new
-places_done R n t [] [] all whole new none ready made = subst (λ (l : List Value). Zip3 R all whole l) (append-nil new) (made [] tt)
+pub places_done : (R : ℕ → Value → Value → Type 0) (n : ℕ) (t : Nodes) (qs : List ℕ)
+    (vs : List Value) (all : List ℕ) (whole new : List Value) → length qs ≡ 0
+    → each_ready n (map (fits t) qs) vs ≡ true
+    → ((more : List Value) → Zip3 R qs vs more → Zip3 R all whole (new ++ more))
+    → Zip3 R all whole new
+places_done R n t [] [] all whole new none ready made = subst (λ (l : List Value). Zip3 R all whole
+    l) (append-nil new) (made [] tt)
 places_done R n t [] (v ∷ vs) all whole new none ready made = absurd (true≢false (sym ready))
 places_done R n t (q ∷ qs) vs all whole new none ready made = absurd (omega arith)
 
 -- two normal forms are one value exactly where the relabelled values are equal
-pub forms_tell : (t : Nodes) (p : ℕ) (b c : List ℕ) (u v r s : Value) → IsRelabelledAt t b p u r → IsRelabelledAt t c p v s → ((r ≡ s → are_equal t p (relabelled b u) (relabelled c v) ≡ true) × (are_equal t p (relabelled b u) (relabelled c v) ≡ true → r ≡ s))
+pub forms_tell : (t : Nodes) (p : ℕ) (b c : List ℕ) (u v r s : Value) → IsRelabelledAt t b p u r
+    → IsRelabelledAt t c p v s
+    → ((r ≡ s → are_equal t p (relabelled b u) (relabelled c v) ≡ true)
+    × (are_equal t p (relabelled b u) (relabelled c v) ≡ true → r ≡ s))
 forms_tell t p b c u v r s x y =
     let is = eq-equivalence t p in
     let bu : Value = relabelled b u in
     let cv : Value = relabelled c v in (
       (λ same. sym (is.congr r bu cv x.equal) ∙ ap (λ w. are_equal t p w cv) same ∙ y.equal),
-      (λ same. normal_unique t p r s x.fitting y.fitting x.normal y.normal (is.congr r bu s x.equal ∙ is.symm bu s ∙ is.congr s cv bu y.equal ∙ is.symm cv bu ∙ same)),
+      (λ same. normal_unique t p r s x.fitting y.fitting x.normal y.normal (is.congr r bu s x.equal
+          ∙ is.symm bu s ∙ is.congr s cv bu y.equal ∙ is.symm cv bu ∙ same)),
     )

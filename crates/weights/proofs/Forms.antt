@@ -12,7 +12,8 @@ use Rattle.weights.specs.declared.fault.NumeralFault.TheVariants.{OverBound}
 use Rattle.weights.proofs.Spelled.{tells}
 
 -- what holds of each element holds of each of a front
-all_in_front : (p : ℕ → Bool) (n : ℕ) (ds : List ℕ) → list_all p ds ≡ true → list_all p (take n ds) ≡ true
+all_in_front : (p : ℕ → Bool) (n : ℕ) (ds : List ℕ) → list_all p ds ≡ true
+    → list_all p (take n ds) ≡ true
 all_in_front p zero ds h = refl
 all_in_front p (suc n) [] h = refl
 all_in_front p (suc n) (d ∷ ds) h =
@@ -20,7 +21,8 @@ all_in_front p (suc n) (d ∷ ds) h =
     rw (parts.0, all_in_front p n ds parts.1) refl
 
 -- the digits that stay of a fraction are digits
-pub all_kept : (ds : List ℕ) → is_digits ds ≡ true → list_all is_ascii_digit (without_end_zeros ds) ≡ true
+pub all_kept : (ds : List ℕ) → is_digits ds ≡ true → list_all is_ascii_digit (without_end_zeros ds)
+    ≡ true
 all_kept ds h = all_in_front is_ascii_digit _ ds (in_digits ds h)
 
 -- a number from 1 on is so within the bound too

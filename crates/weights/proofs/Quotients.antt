@@ -14,7 +14,8 @@ pub divisor_of_sum :
     IsGcd d (size % d) g → g ≡ gcd_of (unsigned_abs n) d
 divisor_of_sum n d size g fits sized greatest =
     let whole : size ≡ unsigned_abs n = sized ∙ ap unsigned_abs (to_z-of_z w128 n fits) in
-    gcd_of_is (unsigned_abs n) d g (subst (λ s. IsGcd s d g) whole (IsGcd-from_mod size d g greatest))
+    gcd_of_is (unsigned_abs n) d g (subst (λ s. IsGcd s d g) whole
+    (IsGcd-from_mod size d g greatest))
 
 -- what is known before the division
 pub record IsCommon (n : ℤ) (d g : ℕ) : Type 0 where
@@ -38,7 +39,8 @@ cast_quotient n g = int_div (to_z w128 (of_z w128 n)) (to_z w128 g)
 -- the casts lose nothing
 uncast : (n : ℤ) (d g : ℕ) → IsCommon n d g → cast_quotient n g ≡ int_div n (pos g)
 uncast n d g c =
-    let within : g ≤ d = le_of_dvd c.some (rw (divisor n d g c) (gcd_of-IsGcd (unsigned_abs n) d).1) in
+    let within : g ≤ d = le_of_dvd c.some (rw (divisor n d g c) (gcd_of-IsGcd (unsigned_abs n) d).1)
+    in
     let small : g < 2 ^ 127 = let h : d < 2 ^ 64 = c.small in omega arith in
     ap (λ m. int_div m (to_z w128 g)) (to_z-of_z w128 n c.fits)
     ∙ ap (λ k. int_div n k) (to_z_pos w128 g small)
@@ -72,4 +74,5 @@ pub quotients-IsLowest :
     (n : ℤ) (d g : ℕ) → IsCommon n d g →
     IsLowest n d (to_z w128 (of_z w128 (cast_quotient n g))) (d / g)
 quotients-IsLowest n d g c =
-    subst (λ (r : Ratio). IsLowest n d r.p r.q) (sym (quotients n d g c)) (lowest_terms-IsLowest n d c.some)
+    subst (λ (r : Ratio). IsLowest n d r.p r.q) (sym (quotients n d g c))
+    (lowest_terms-IsLowest n d c.some)

@@ -28,13 +28,16 @@ signed_fits negative n small =
 
 -- the quotients by the greatest common divisor are the fraction in lowest terms
 pub reduced_is :
-    (negative : Bool) (n d g : ℕ) (x : ℤ) → n ≤ 2 ^ 40 → g ≡ gcd_of n d → x ≡ signed negative (n / g) →
-    ◌≡◌ {A = Numeral} (record { p = to_z w64 (of_z w64 x); q = d / g }) (reduced (signed negative n) d)
+    (negative : Bool) (n d g : ℕ) (x : ℤ) → n ≤ 2 ^ 40 → g ≡ gcd_of n d
+    → x ≡ signed negative (n / g) →
+    ◌≡◌ {A = Numeral} (record { p = to_z w64 (of_z w64 x); q = d / g }) (reduced (signed negative n)
+    d)
 unfolding lowest_terms
 reduced_is negative n d g x small is quotient =
     let within : n / g ≤ 2 ^ 40 = omega (arith, div-le_self n g) in
     ap (λ y. numeral (to_z w64 (of_z w64 y)) (d / g)) quotient
-    ∙ ap (λ y. numeral y (d / g)) (to_z-of_z w64 (signed negative (n / g)) (signed_fits negative (n / g) within))
+    ∙ ap (λ y. numeral y (d / g)) (to_z-of_z w64 (signed negative (n / g))
+    (signed_fits negative (n / g) within))
     ∙ ap (λ y. numeral y (d / g)) (sym (signed_quotient negative n g))
     ∙ ap (λ h. numeral (int_div (signed negative n) (pos h)) (d / h))
     (is ∙ ap (λ m. gcd_of m d) (sym (abs-signed negative n)))

@@ -21,7 +21,8 @@ number_after-append n (d ∷ ds) es = number_after-append (n * 10 + (d - digit_z
 
 -- the bound is kept or passed
 pub tells :
-    (n : ℕ) → ((nat_le n (2 ^ 40) ≡ true) × (n ≤ 2 ^ 40)) ⊎ ((nat_le n (2 ^ 40) ≡ false) × (2 ^ 40 < n))
+    (n : ℕ) → ((nat_le n (2 ^ 40) ≡ true) × (n ≤ 2 ^ 40)) ⊎ ((nat_le n (2 ^ 40) ≡ false)
+    × (2 ^ 40 < n))
 tells n = elim (cases_lt (2 ^ 40) n) [
   | inl over ↦ inr (grind (arith, nat_tests), over)
   | inr within ↦ inl (grind (arith, nat_tests), within)
@@ -57,11 +58,13 @@ over_tells n e = elim (tells n) [
 
 -- 12 places are within the bound, and 13 are not
 pub power_within : (places : ℕ) → places ≤ 12 → 10 ^ places ≤ 2 ^ 40
-power_within places few = let h : 10 ^ places ≤ 10 ^ 12 = pow-le-pow_right (omega arith) few in omega arith
+power_within places few = let h : 10 ^ places ≤ 10 ^ 12 = pow-le-pow_right (omega arith) few in
+    omega arith
 
 -- and 13 are over it
 pub power_over : (places : ℕ) → 12 < places → 2 ^ 40 < 10 ^ places
-power_over places many = let h : 10 ^ 13 ≤ 10 ^ places = pow-le-pow_right (omega arith) many in omega arith
+power_over places many = let h : 10 ^ 13 ≤ 10 ^ places = pow-le-pow_right (omega arith) many in
+    omega arith
 
 -- once a front is over the bound, the whole is
 pub over_from_front :

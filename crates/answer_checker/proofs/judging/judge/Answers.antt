@@ -32,7 +32,8 @@ first_different-requires-clause-below c i l =
     (c.in_default.ensures.once refl) c.in_ok-numbers.ensures in
     let is = c.as_slice-3.ensures.value ∙ h.1 in
     subst (λ (ns : List ℕ). slice_index ns i < length c.args.blocks.now) (sym is)
-    (subst (λ m. slice_index (line_numbers lines n) i < m) (seen_count c.args.c.now.names c.args.blocks.now)
+    (subst (λ m. slice_index (line_numbers lines n) i < m) (seen_count c.args.c.now.names
+    c.args.blocks.now)
     (number_below n lines h.0 i (omega (arith, l, ap length is, numbers_count lines n))))
 
 pub first_wrong-requires-clause-one_each : goal.first_wrong-requires-clause-one_each

@@ -36,7 +36,9 @@ returns-in-None-clause-verdict c =
     c.least_misfit-misfit.result c.least_stranger-stranger.result None is
     c.as_slice.ensures.value c.as_slice-2.ensures.value c.least_misfit-misfit.ensures
     c.least_stranger-stranger.ensures c.in-None.ensures))
-    (subst (λ fs. IsJudged content (holds_at content fs) (block_lines content answers) v) is.formulas
-    (subst (λ bs. IsJudged content (holds_at content c.args.text.now.dag) (map (block_line names) bs) v)
+    (subst (λ fs. IsJudged content (holds_at content fs) (block_lines content answers) v)
+    is.formulas
+    (subst (λ bs. IsJudged content (holds_at content c.args.text.now.dag)
+    (map (block_line names) bs) v)
     (ap (map block_seen) c.as_slice-in-None.ensures.value ∙ is.blocks) judged)))
     c.judge.ensures.verdict

@@ -6,4 +6,5 @@ use Rattle.answer_checker.proofs.laws.there_is_one_verdict.Goals as goal
 
 pub returns : goal.returns
 returns c content bytes v w a b =
-    one_verdict content (answers_read (certificate_of bytes)) (bad_answer_line content bytes) v w a b
+    one_verdict content (answers_read (certificate_of bytes)) (bad_answer_line content bytes) v w a
+    b

@@ -12,5 +12,6 @@ returns c content a b good good' lines truths v is =
     subst (λ o. IsVerdictOf content (answers_read (certificate_of a)) o v) good is in
     subst (λ o. IsVerdictOf content (answers_read (certificate_of b)) o v) (sym good')
     (subst (λ (ls : List BlockLine). IsJudged content (truths_of content b) ls v) lines
-    (same_verdict content (lines_of_text content a) (truths_of content a) (truths_of content b) truths
+    (same_verdict content (lines_of_text content a) (truths_of content a) (truths_of content b)
+    truths
     v judged))

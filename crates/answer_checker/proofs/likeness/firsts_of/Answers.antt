@@ -23,6 +23,7 @@ loop-number-preserved c =
       table = length-set seen k (Some f) ∙ c.loop-number.invariant.table;
       noted =
           subst (IsNoting numbers (y + 1) (set seen k (Some f))) (sym c.in_ok-push.ensures.items)
-          (noting-more numbers y k f seen c.loop-number.firsts.items c.loop-number-test.true refl inside
+          (noting-more numbers y k f seen c.loop-number.firsts.items c.loop-number-test.true refl
+          inside
           is c.loop-number.invariant.noted);
     }

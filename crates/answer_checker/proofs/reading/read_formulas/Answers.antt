@@ -9,7 +9,8 @@ use Rattle.answer_checker.proofs.reading.read_formulas.Goals as goal
 
 pub least_misfit-requires : goal.least_misfit-requires
 least_misfit-requires c =
-    let (answers, read, is) = text_given c.in-Ok.text (answers_of c.args.bytes.now) c.in-Ok.ensures.good in
+    let (answers, read, is) = text_given c.in-Ok.text (answers_of c.args.bytes.now)
+    c.in-Ok.ensures.good in
     record {
       one_each =
           ap length (c.as_slice.ensures.value ∙ is.lines) ∙ one_line_each answers
@@ -18,7 +19,8 @@ least_misfit-requires c =
 
 pub returns-in-None-clause-fitting : goal.returns-in-None-clause-fitting
 returns-in-None-clause-fitting c =
-    let (answers, read, is) = text_given c.in-Ok.text (answers_of c.args.bytes.now) c.in-Ok.ensures.good in
+    let (answers, read, is) = text_given c.in-Ok.text (answers_of c.args.bytes.now)
+    c.in-Ok.ensures.good in
     all_fit c.args.term.now c.in-Ok.text.dag c.as_slice.result.now
     (ap length (c.as_slice.ensures.value ∙ is.lines) ∙ one_line_each answers
     ∙ sym (ap length is.formulas))
@@ -27,7 +29,8 @@ returns-in-None-clause-fitting c =
 pub returns-in-Some-clause-bad : goal.returns-in-Some-clause-bad
 returns-in-Some-clause-bad c =
     let t = c.args.term.now in
-    let (answers, read, is) = text_given c.in-Ok.text (answers_of c.args.bytes.now) c.in-Ok.ensures.good in
+    let (answers, read, is) = text_given c.in-Ok.text (answers_of c.args.bytes.now)
+    c.in-Ok.ensures.good in
     ap (bad_line (is_misfit t)) read ∙ misfit_lines t answers
     ∙ ap (λ fs. least_of_formulas t fs (lines_of_formulas answers)) (sym is.formulas)
     ∙ ap (least_of_formulas t c.in-Ok.text.dag) (sym (c.as_slice.ensures.value ∙ is.lines))

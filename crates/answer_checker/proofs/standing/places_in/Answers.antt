@@ -24,7 +24,8 @@ loop-block-preserved c =
     ≡ before ++ line_with b.formula (map (λ word. number_of names word.now) b.names.items) ∷ [] =
     lines_seen-more names blocks i c.loop-block-test.true b (sym c.block-item.is) in
     let put : ArePlaces
-    (before ++ line_with b.formula (map (λ word. number_of names word.now) c.as_slice.result.now) ∷ [])
+    (before ++ line_with b.formula (map (λ word. number_of names word.now) c.as_slice.result.now)
+    ∷ [])
     new =
     c.put_states.ensures.put before b.formula
     (lines_seen-count names blocks i c.loop-block-test.true ∙ sym c.loop-block.invariant.count)
@@ -35,6 +36,7 @@ loop-block-preserved c =
       places =
           subst (λ ls. ArePlaces ls behind) (sym lines)
           (subst (ArePlaces _) (sym same)
-          (subst (λ ws. ArePlaces (before ++ line_with b.formula (map (λ word. number_of names word.now) ws) ∷ []) new)
+          (subst (λ ws. ArePlaces (before ++ line_with b.formula
+          (map (λ word. number_of names word.now) ws) ∷ []) new)
           c.as_slice.ensures.value put));
     }

@@ -22,7 +22,8 @@ returns-in-Some-clause-put c lines f ss count are =
     omega (arith, (position-Some (is_same_word word) names i [] found).0, c.requires.one_each) in
     let now : put_again (length lines) (get_or places i Nowhere) ≡ c.put_again.result =
     ap (λ k. put_again k (get_or places i Nowhere)) count ∙ sym c.put_again.ensures in
-    subst (λ s. ArePlaces (lines ++ line_with f (ss ++ s ∷ []) ∷ []) (set places i c.put_again.result))
+    subst (λ s. ArePlaces (lines ++ line_with f (ss ++ s ∷ []) ∷ [])
+    (set places i c.put_again.result))
     (sym is)
     (subst (λ p. ArePlaces (lines ++ line_with f (ss ++ i ∷ []) ∷ []) (set places i p)) now
     (put_more lines f ss i places inside are))

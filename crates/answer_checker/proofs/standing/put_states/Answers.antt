@@ -29,7 +29,8 @@ loop-word-preserved c =
 
 pub returns-clause-put : goal.returns-clause-put
 returns-clause-put c lines f count are =
-    subst (λ ws. ArePlaces (lines ++ line_with f (map (λ word. number_of c.args.names.now word.now) ws) ∷ [])
+    subst (λ ws. ArePlaces (lines ++ line_with f (map (λ word. number_of c.args.names.now word.now)
+    ws) ∷ [])
     c.loop-word.places)
     (take_all c.loop-word.word-index c.args.words.now (omega (arith, c.loop-word-test.false)))
     (c.loop-word.invariant.put lines f count are)

@@ -36,7 +36,13 @@ pub returns-clause-cited : goal.returns-clause-cited
 returns-clause-cited c =
     let blocks : List BlockLine = c.args.blocks.now in
     let past : c.loop-block.block-index ≡ length (map formula_of blocks) =
-    omega (arith, c.loop-block.auto.block-index-end, c.loop-block-test.false, length-map blocks formula_of) in
+    omega (
+      arith,
+      c.loop-block.auto.block-index-end,
+      c.loop-block-test.false,
+      length-map blocks
+          formula_of,
+    ) in
     citing_sorted (map formula_of blocks) (length (map formula_of blocks)) c.loop-block.found.items
     c.sort_unstable_by_key.new.self.items c.sort_unstable_by_key.ensures.permutation
     (subst (λ n. AreCitationsBefore (map formula_of blocks) n c.loop-block.found.items) past

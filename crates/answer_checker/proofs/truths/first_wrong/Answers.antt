@@ -34,7 +34,8 @@ overflow_add-next c =
     formula_below (length c.args.dag.now) c.args.blocks.now c.requires.cited (get_or items i d).line
     (get_or items i d).formula
     (cited_there (formulas_in c.args.blocks.now) items c.in_ok-cited.cited.items i d
-    c.as_slice-citation-items.ensures.value c.in_ok-cited.ensures.cited c.loop-citation-test.true) in
+    c.as_slice-citation-items.ensures.value c.in_ok-cited.ensures.cited c.loop-citation-test.true)
+    in
     omega (arith, below, c.len-count.ensures.count, c.len-count.type_inv)
 
 pub loop-citation-preserved : goal.loop-citation-preserved

@@ -14,7 +14,8 @@ use Rattle.copar_run.proofs.Finding.{are-named}
 use Rattle.copar_run.proofs.AnswerLaws.{numbers-named}
 use Rattle.copar_run.proofs.answering.answer_of.Goals as goal
 
-pub returns-in_ok-blocks_output-in-Blocks-clause-made : goal.returns-in_ok-blocks_output-in-Blocks-clause-made
+pub returns-in_ok-blocks_output-in-Blocks-clause-made :
+    goal.returns-in_ok-blocks_output-in-Blocks-clause-made
 returns-in_ok-blocks_output-in-Blocks-clause-made g c =
     let files = g.F.Folder.files c.args.folder.now in
     let o = met files (g.F.Folder.faults c.args.folder.now)
@@ -31,11 +32,13 @@ returns-in_ok-blocks_output-in-Blocks-clause-made g c =
           c.done.result.text.items) (sym same)
           (make o request [] (Subject.One source) rise Done
           c.in_ok-blocks_output-in-Blocks.field-0.items tt
-          (about-one o file source c.requires.read request (λ fs is. is)) refl prints (λ name. refl) _ _
+          (about-one o file source c.requires.read request (λ fs is. is)) refl prints (λ name. refl)
+          _ _
           c.done.ensures.done c.done.ensures.same),
     )
 
-pub returns-in_ok-minimal_output-in-Minimise-clause-made : goal.returns-in_ok-minimal_output-in-Minimise-clause-made
+pub returns-in_ok-minimal_output-in-Minimise-clause-made :
+    goal.returns-in_ok-minimal_output-in-Minimise-clause-made
 returns-in_ok-minimal_output-in-Minimise-clause-made g c =
     let files = g.F.Folder.files c.args.folder.now in
     let o = met files (g.F.Folder.faults c.args.folder.now)
@@ -48,15 +51,18 @@ returns-in_ok-minimal_output-in-Minimise-clause-made g c =
     let (rise, risen, prints) = c.in_ok-minimal_output-in-Minimise.ensures.prints in (
       rise,
       risen,
-      subst (λ t. IsMade (Request.OnFile file t) (later_stages file t) o rise c.done-in-Minimise.result.status
+      subst (λ t. IsMade (Request.OnFile file t) (later_stages file t) o rise
+          c.done-in-Minimise.result.status
           c.done-in-Minimise.result.text.items) (sym same)
           (make o request [] (Subject.One source) rise Done
           c.in_ok-minimal_output-in-Minimise.field-0.items tt
-          (about-one o file source c.requires.read request (λ fs is. is)) refl prints (λ name. refl) _ _
+          (about-one o file source c.requires.read request (λ fs is. is)) refl prints (λ name. refl)
+          _ _
           c.done-in-Minimise.ensures.done c.done-in-Minimise.ensures.same),
     )
 
-pub returns-in_ok-certified_output-in-Certify-clause-made : goal.returns-in_ok-certified_output-in-Certify-clause-made
+pub returns-in_ok-certified_output-in-Certify-clause-made :
+    goal.returns-in_ok-certified_output-in-Certify-clause-made
 returns-in_ok-certified_output-in-Certify-clause-made g c =
     let files = g.F.Folder.files c.args.folder.now in
     let o = met files (g.F.Folder.faults c.args.folder.now)
@@ -69,11 +75,13 @@ returns-in_ok-certified_output-in-Certify-clause-made g c =
     let (rise, risen, prints) = c.in_ok-certified_output-in-Certify.ensures.prints in (
       rise,
       risen,
-      subst (λ t. IsMade (Request.OnFile file t) (later_stages file t) o rise c.done-in-Certify.result.status
+      subst (λ t. IsMade (Request.OnFile file t) (later_stages file t) o rise
+          c.done-in-Certify.result.status
           c.done-in-Certify.result.text.items) (sym same)
           (make o request [] (Subject.One source) rise Done
           c.in_ok-certified_output-in-Certify.field-0.items tt
-          (about-one o file source c.requires.read request (λ fs is. is)) refl prints (λ name. refl) _ _
+          (about-one o file source c.requires.read request (λ fs is. is)) refl prints (λ name. refl)
+          _ _
           c.done-in-Certify.ensures.done c.done-in-Certify.ensures.same),
     )
 
@@ -120,7 +128,8 @@ returns-in_ok-text-in-Explain-clause-made g c =
     let (rise, risen, told) = c.in_ok-text-in-Explain.ensures.prints in (
       rise,
       risen,
-      subst (λ t. IsMade (Request.OnFile file t) (later_stages file t) o rise c.done-in-Explain.result.status
+      subst (λ t. IsMade (Request.OnFile file t) (later_stages file t) o rise
+          c.done-in-Explain.result.status
           c.done-in-Explain.result.text.items) (sym same)
           (make o request (Stage.FindStates file 0 words ∷ []) (Subject.One source) rise Done
           c.in_ok-text-in-Explain.text.items (

@@ -130,7 +130,8 @@ returns-clause-made g c =
         ),
       ),
     )
-    (about-two o file source c.requires.read name bytes holds (Request.OnFile file (Task.Check name words))
+    (about-two o file source c.requires.read name bytes holds
+    (Request.OnFile file (Task.Check name words))
     (λ fs is. is))
     refl (
       refl,

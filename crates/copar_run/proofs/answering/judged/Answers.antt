@@ -88,7 +88,8 @@ returns-in-No-clause-made g c =
         tt,
       ),
     )
-    (about-two o file source c.requires.read name bytes holds (Request.OnFile file (Task.Verify name))
+    (about-two o file source c.requires.read name bytes holds
+    (Request.OnFile file (Task.Verify name))
     (λ fs is. is))
     (inr refl) (
       refl,
@@ -132,7 +133,8 @@ returns-clause-made g c =
         tt,
       ),
     )
-    (about-two o file source c.requires.read name bytes holds (Request.OnFile file (Task.Verify name))
+    (about-two o file source c.requires.read name bytes holds
+    (Request.OnFile file (Task.Verify name))
     (λ fs is. is))
     (inl refl) (
       refl,

@@ -13,7 +13,8 @@ returns c =
       usage = λ words o w rise s output n r. usage words o w rise s output n r;
       usage_only = usage_only;
       judged = λ words o w rise s output files request r known a.
-          judged laws files o known w rise s output request (ends words o w rise s output request a r);
+          judged laws files o known w rise s output request (ends words o w rise s output request a
+          r);
       fault_is_told = λ words o w rise s output files request stage fault r known a.
           fault_is_told laws files o known w rise s output request fault stage
           (ends words o w rise s output request a r);

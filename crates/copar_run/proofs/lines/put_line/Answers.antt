@@ -5,10 +5,12 @@ use Rattle.copar_run.proofs.Told.{whole-told, front-told}
 use Rattle.copar_run.proofs.lines.put_line.Goals as goal
 
 pub returns-in-Grammar-clause-whole : goal.returns-in-Grammar-clause-whole
-returns-in-Grammar-clause-whole g c = whole-told _ _ _ _ _ _ _ c.in-Grammar.is c.put_numbered.ensures.whole
+returns-in-Grammar-clause-whole g c = whole-told _ _ _ _ _ _ _ c.in-Grammar.is
+    c.put_numbered.ensures.whole
 
 pub returns-in-Grammar-clause-front : goal.returns-in-Grammar-clause-front
-returns-in-Grammar-clause-front g c = front-told _ _ _ _ _ c.in-Grammar.is c.put_numbered.ensures.front
+returns-in-Grammar-clause-front g c = front-told _ _ _ _ _ c.in-Grammar.is
+    c.put_numbered.ensures.front
 
 pub returns-in-ReadFault-clause-whole : goal.returns-in-ReadFault-clause-whole
 returns-in-ReadFault-clause-whole g c =
@@ -39,7 +41,8 @@ returns-in-TooLong-clause-whole g c =
     whole-told _ _ _ _ _ _ _ c.in-TooLong.is c.put_text-in-TooLong.ensures.whole
 
 pub returns-in-TooLong-clause-front : goal.returns-in-TooLong-clause-front
-returns-in-TooLong-clause-front g c = front-told _ _ _ _ _ c.in-TooLong.is c.put_text-in-TooLong.ensures.front
+returns-in-TooLong-clause-front g c = front-told _ _ _ _ _ c.in-TooLong.is
+    c.put_text-in-TooLong.ensures.front
 
 pub returns-in-WeightBound-clause-whole : goal.returns-in-WeightBound-clause-whole
 returns-in-WeightBound-clause-whole g c =
@@ -59,12 +62,18 @@ returns-in-SumFault-clause-front g c =
 
 pub returns-in-TypeFault-clause-whole : goal.returns-in-TypeFault-clause-whole
 returns-in-TypeFault-clause-whole g c = whole-told _ _ _ _ _ _ _ c.in-TypeFault.is
-    (subst (λ ending. IsQuiet (g.E.Sink.faults c.args.err.now) (g.E.Sink.faults c.put_numbered-in-TypeFault.new.err) → g.E.Sink.taken c.put_numbered-in-TypeFault.new.err ≡ append_known (g.E.Sink.taken c.args.err.now) (codes "copar: type fault on line " ++ decimal c.in-TypeFault.line ++ ending))
+    (subst (λ ending. IsQuiet (g.E.Sink.faults c.args.err.now)
+    (g.E.Sink.faults c.put_numbered-in-TypeFault.new.err)
+    → g.E.Sink.taken c.put_numbered-in-TypeFault.new.err ≡ append_known
+    (g.E.Sink.taken c.args.err.now) (codes "copar: type fault on line "
+    ++ decimal c.in-TypeFault.line ++ ending))
     c.ending.ensures c.put_numbered-in-TypeFault.ensures.whole)
 
 pub returns-in-TypeFault-clause-front : goal.returns-in-TypeFault-clause-front
 returns-in-TypeFault-clause-front g c = front-told _ _ _ _ _ c.in-TypeFault.is
-    (subst (λ ending. (n : ℕ) × (g.E.Sink.taken c.put_numbered-in-TypeFault.new.err ≡ append_known (g.E.Sink.taken c.args.err.now) (take n (codes "copar: type fault on line " ++ decimal c.in-TypeFault.line ++ ending))))
+    (subst (λ ending. (n : ℕ) × (g.E.Sink.taken c.put_numbered-in-TypeFault.new.err ≡ append_known
+    (g.E.Sink.taken c.args.err.now) (take n (codes "copar: type fault on line "
+    ++ decimal c.in-TypeFault.line ++ ending))))
     c.ending.ensures c.put_numbered-in-TypeFault.ensures.front)
 
 pub returns-in-UnknownState-clause-whole : goal.returns-in-UnknownState-clause-whole

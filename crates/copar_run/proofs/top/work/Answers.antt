@@ -23,7 +23,8 @@ returns-then-put_all-clause-ends g c =
       (λ none other. c.put_all.ensures.no_call_for_no_byte (c.deref.ensures.value ∙ none)),
       subst (λ s. Ends (denoted c.args.request.now) o w rise s c.in-Ok.made.text.items)
           (sym c.by.ensures.same)
-          (end-written (denoted c.args.request.now) o w rise c.in-Ok.made.status c.in-Ok.made.text.items made
+          (end-written (denoted c.args.request.now) o w rise c.in-Ok.made.status
+          c.in-Ok.made.text.items made
           (c.put_all.ensures.success_counts_nothing c.if-put_all.true)),
     )
 
@@ -49,14 +50,16 @@ returns-in-Ok-clause-ends g c =
       (λ none other. absurd (other c.by-else-put_all.ensures.same)),
       subst (λ s. Ends (denoted c.args.request.now) o w rise s (take n c.in-Ok.made.text.items))
           (sym c.by-else-put_all.ensures.same)
-          (end-failed (denoted c.args.request.now) o w rise c.in-Ok.made.status c.in-Ok.made.text.items n made
+          (end-failed (denoted c.args.request.now) o w rise c.in-Ok.made.status
+          c.in-Ok.made.text.items n made
           (c.put_all.ensures.failure_is_counted c.if-put_all.false)),
     )
 
 pub returns-in-Ok-clause-line : goal.returns-in-Ok-clause-line
 returns-in-Ok-clause-line g c words asks e =
     IsLine.FromOutside (inr c.by-else-put_all.ensures.same)
-    (no-word c.by-else-put_all.result.status WriteFault c.by-else-put_all.result.word.now c.by-else-put_all.ensures.same refl)
+    (no-word c.by-else-put_all.result.status WriteFault c.by-else-put_all.result.word.now
+    c.by-else-put_all.ensures.same refl)
 
 pub returns-clause-ends : goal.returns-clause-ends
 returns-clause-ends g c =

@@ -11,8 +11,10 @@ push_within-requires c = (term-some c.args.term.now c.len.ensures.term).0
 
 pub returns-clause-text : goal.returns-clause-text
 returns-clause-text c =
-    c.in_ok-push_within.ensures ∙ ap (λ l. l ++ within 3 (shown_at c.args.term.now 0)) c.in_ok-text.ensures.items
-    ∙ shown-loose c.args.term.now c.len.ensures.term 0 (term-some c.args.term.now c.len.ensures.term).0
+    c.in_ok-push_within.ensures
+    ∙ ap (λ l. l ++ within 3 (shown_at c.args.term.now 0)) c.in_ok-text.ensures.items
+    ∙ shown-loose c.args.term.now c.len.ensures.term 0
+    (term-some c.args.term.now c.len.ensures.term).0
 
 pub returns-clause-spells : goal.returns-clause-spells
 returns-clause-spells c =

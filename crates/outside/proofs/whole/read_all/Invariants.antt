@@ -7,7 +7,8 @@ abbrev pub invariant-pieces : goal.invariant-pieces
 invariant-pieces g l = record {
   within : vec_len l.bytes ≤ l.bound + 1;
   room : 0 < vec_len l.buffer;
-  begins : IfSome (g.F.Folder.files l.folder) (λ files. BeginsWith (map.get files l.name) l.bytes.items);
+  begins : IfSome (g.F.Folder.files l.folder) (λ files. BeginsWith (map.get files l.name)
+      l.bytes.items);
   files : g.F.Folder.files l.folder ≡ g.F.Folder.files l.initial.folder;
   quiet :
       (other : List ℕ) →

@@ -46,7 +46,8 @@ invariant-equal_places-loop-child l = record {
   later : are_later (length l.term) l.p l.children ≡ true;
   left : list_all is_bounded l.left ≡ true;
   right : list_all is_bounded l.right ≡ true;
-  rest : each_place (map (are_equal l.term) l.children) l.left l.right ≡ each_place (map (are_equal l.term) (children_at l.term l.p)) l.fn.us l.fn.vs;
+  rest : each_place (map (are_equal l.term) l.children) l.left l.right ≡ each_place
+      (map (are_equal l.term) (children_at l.term l.p)) l.fn.us l.fn.vs;
 }
 
 abbrev pub decreases-equal_places-loop-child : goal.decreases-equal_places-loop-child
@@ -56,7 +57,8 @@ abbrev pub invariant-equal_lists-loop-u : goal.invariant-equal_lists-loop-u
 invariant-equal_lists-loop-u l = record {
   left : list_all is_bounded l.left ≡ true;
   right : list_all is_bounded l.right ≡ true;
-  rest : pointwise (child_test l.term l.p 0) l.left l.right ≡ pointwise (child_test l.term l.p 0) l.fn.us l.fn.vs;
+  rest : pointwise (child_test l.term l.p 0) l.left l.right ≡ pointwise (child_test l.term l.p 0)
+      l.fn.us l.fn.vs;
 }
 
 abbrev pub decreases-equal_lists-loop-u : goal.decreases-equal_lists-loop-u

@@ -10,7 +10,8 @@ use Rattle.plain.proofs.soundness.+is_bounded.Given as goal
 abbrev pub invariant-each_bounded-loop-value : goal.invariant-each_bounded-loop-value
 invariant-each_bounded-loop-value l = record {
   all : l.value-items ≡ l.values;
-  rest : list_all (λ b. b) (map is_bounded (drop l.value-index l.value-items)) ≡ list_all (λ b. b) (map is_bounded l.values);
+  rest : list_all (λ b. b) (map is_bounded (drop l.value-index l.value-items)) ≡ list_all (λ b. b)
+      (map is_bounded l.values);
 }
 
 abbrev pub invariant-is_bounded-loop-value : goal.invariant-is_bounded-loop-value

@@ -5,7 +5,8 @@ use Rattle.plain.proofs.soundness.sum_is_bounded.Given as goal
 
 -- the answer for the rest is the answer for all
 abbrev pub invariant-loop-entry : goal.invariant-loop-entry
-invariant-loop-entry l = nat_le (absolute_sum l.rest) l.left ≡ nat_le (absolute_sum l.entries) (2 ^ 126)
+invariant-loop-entry l = nat_le (absolute_sum l.rest) l.left ≡ nat_le (absolute_sum l.entries)
+    (2 ^ 126)
 
 abbrev pub decreases-loop-entry : goal.decreases-loop-entry
 decreases-loop-entry l = length l.rest

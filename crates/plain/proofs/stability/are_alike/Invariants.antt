@@ -8,7 +8,8 @@ use Rattle.plain.proofs.stability.are_alike.Given as goal
 abbrev pub invariant-loop-label : goal.invariant-loop-label
 invariant-loop-label l = record {
   bounded : list_all is_bounded l.left ≡ true;
-  rest : all_alike l.term l.rest l.left l.labels l.values ≡ all_alike l.term l.labels l.values l.labels l.values;
+  rest : all_alike l.term l.rest l.left l.labels l.values ≡ all_alike l.term l.labels l.values
+      l.labels l.values;
 }
 
 abbrev pub decreases-loop-label : goal.decreases-loop-label

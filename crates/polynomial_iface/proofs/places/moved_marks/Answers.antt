@@ -12,6 +12,7 @@ value_at-requires c =
 
 pub value_at-requires-2 : goal.value_at-requires-2
 value_at-requires-2 c =
-    ap length (c.in_ok-without.ensures ∙ ap (map (λ t. min 1 t)) (c.as_slice.ensures.value ∙ c.in_ok-trits.ensures))
+    ap length (c.in_ok-without.ensures ∙ ap (map (λ t. min 1 t)) (c.as_slice.ensures.value
+    ∙ c.in_ok-trits.ensures))
     ∙ length-map (λ t. min 1 t) (trits_from c.args.marks.now 0 c.args.moved.now)
     ∙ length-trits_from c.args.marks.now 0 c.args.moved.now ∙ c.requires.one_each

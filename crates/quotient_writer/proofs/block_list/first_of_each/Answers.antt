@@ -15,13 +15,18 @@ loop-i-preserved c =
     let inside : i < length labels = omega (arith, c.requires.one_each, c.loop-i-test.true) in
     elim c.if-labels-i.branch [
       | then-labels-i+in_ok-push w ↦
-          rw (ap (λ l. l.items) w.firsts-is ∙ w.in_ok-push.ensures.items) (passing_new labels i k c.loop-i.firsts.items (got labels i inside) refl inside c.loop-i.invariant (w.if-labels-i.true ∙ c.len.ensures ∙ c.loop-i.firsts.ok.0))
+          rw (ap (λ l. l.items) w.firsts-is ∙ w.in_ok-push.ensures.items)
+          (passing_new labels i k c.loop-i.firsts.items (got labels i inside) refl inside
+          c.loop-i.invariant (w.if-labels-i.true ∙ c.len.ensures ∙ c.loop-i.firsts.ok.0))
       | else-labels-i w ↦
-          rw (ap (λ l. l.items) w.firsts-is) (passing_old labels i k c.loop-i.firsts.items (got labels i inside) refl inside c.loop-i.invariant (λ e. w.if-labels-i.false (e ∙ sym c.loop-i.firsts.ok.0 ∙ sym c.len.ensures)))
+          rw (ap (λ l. l.items) w.firsts-is) (passing_old labels i k c.loop-i.firsts.items
+          (got labels i inside) refl inside c.loop-i.invariant (λ e. w.if-labels-i.false (e
+          ∙ sym c.loop-i.firsts.ok.0 ∙ sym c.len.ensures)))
     ]
 
 pub returns-clause-classes : goal.returns-clause-classes
-returns-clause-classes c i h = c.loop-i.invariant.classes i (omega (arith, h, c.requires.one_each, c.loop-i-test.false))
+returns-clause-classes c i h = c.loop-i.invariant.classes i
+    (omega (arith, h, c.requires.one_each, c.loop-i-test.false))
 
 pub returns-clause-first : goal.returns-clause-first
 returns-clause-first c i h = c.loop-i.invariant.first i h

@@ -12,7 +12,13 @@ pub overflow_add-classes : goal.overflow_add-classes
 overflow_add-classes c = omega (arith, c.loop-i.invariant.few, c.loop-i-test.true, c.requires.few)
 
 pub index-label-requires : goal.index-label-requires
-index-label-requires c = omega (arith, (c.requires.firsts c.loop-i.i c.loop-i-test.true).0, c.if-first-i.false, c.loop-i.invariant.count, c.loop-i.labels.ok.0)
+index-label-requires c = omega (
+  arith,
+  (c.requires.firsts c.loop-i.i c.loop-i-test.true).0,
+  c.if-first-i.false,
+  c.loop-i.invariant.count,
+  c.loop-i.labels.ok.0,
+)
 
 pub loop-i-preserved : goal.loop-i-preserved
 loop-i-preserved c =
@@ -22,19 +28,40 @@ loop-i-preserved c =
     let f : ℕ = slice_index firsts i in
     elim c.if-first-i.branch [
       | then-first-i+in_ok-push w ↦
-          rw (ap (λ l. l.items) w.labels-is ∙ w.in_ok-push.ensures.items, w.classes-is) (numbering_new firsts c.requires.firsts i c.loop-i.classes labels c.loop-i-test.true c.loop-i.invariant w.if-first-i.true)
+          rw (ap (λ l. l.items) w.labels-is ∙ w.in_ok-push.ensures.items, w.classes-is)
+          (numbering_new firsts c.requires.firsts i c.loop-i.classes labels c.loop-i-test.true
+          c.loop-i.invariant w.if-first-i.true)
       | else-first-i+in_ok-push-2 w ↦
-          let known : f < length labels = omega (arith, (c.requires.firsts i c.loop-i-test.true).0, w.if-first-i.false, c.loop-i.invariant.count) in
-          let read : slice_index labels f ≡ w.index-label.result.now = get_or_from_slice_get labels f w.index-label.result.now 0 (slice_get_read labels (length labels) f w.index-label.result.now refl known w.index-label.ensures) in
-          rw (ap (λ l. l.items) w.labels-is ∙ w.in_ok-push-2.ensures.items ∙ ap (λ k. labels ++ k ∷ []) (sym read), w.classes-is) (numbering_old firsts c.requires.firsts i c.loop-i.classes labels c.loop-i-test.true c.loop-i.invariant w.if-first-i.false)
+          let known : f < length labels = omega (
+            arith,
+            (c.requires.firsts i c.loop-i-test.true).0,
+            w.if-first-i.false,
+            c.loop-i.invariant.count,
+          ) in
+          let read : slice_index labels f ≡ w.index-label.result.now = get_or_from_slice_get labels
+          f w.index-label.result.now 0 (slice_get_read labels (length labels) f
+          w.index-label.result.now refl known w.index-label.ensures) in
+          rw (
+            ap (λ l. l.items) w.labels-is ∙ w.in_ok-push-2.ensures.items
+                ∙ ap (λ k. labels ++ k ∷ []) (sym read),
+            w.classes-is,
+          )
+          (numbering_old firsts c.requires.firsts i c.loop-i.classes labels c.loop-i-test.true
+          c.loop-i.invariant w.if-first-i.false)
     ]
 
 pub returns-clause-numbered : goal.returns-clause-numbered
 returns-clause-numbered c =
-    let past : c.loop-i.i ≡ length c.args.firsts.now = omega (arith, c.loop-i.auto.i-end, c.loop-i-test.false) in
-    all_numbered c.args.firsts.now c.requires.firsts c.loop-i.labels.items c.loop-i.classes (subst (λ n. IsNumbering c.args.firsts.now n c.loop-i.labels.items c.loop-i.classes) past c.loop-i.invariant)
+    let past : c.loop-i.i ≡ length c.args.firsts.now =
+    omega (arith, c.loop-i.auto.i-end, c.loop-i-test.false) in
+    all_numbered c.args.firsts.now c.requires.firsts c.loop-i.labels.items c.loop-i.classes
+    (subst (λ n. IsNumbering c.args.firsts.now n c.loop-i.labels.items c.loop-i.classes) past
+    c.loop-i.invariant)
 
 pub returns-clause-same_classes : goal.returns-clause-same_classes
 returns-clause-same_classes c =
-    let past : c.loop-i.i ≡ length c.args.firsts.now = omega (arith, c.loop-i.auto.i-end, c.loop-i-test.false) in
-    all_same c.args.firsts.now c.requires.firsts c.loop-i.labels.items c.loop-i.classes (subst (λ n. IsNumbering c.args.firsts.now n c.loop-i.labels.items c.loop-i.classes) past c.loop-i.invariant)
+    let past : c.loop-i.i ≡ length c.args.firsts.now =
+    omega (arith, c.loop-i.auto.i-end, c.loop-i-test.false) in
+    all_same c.args.firsts.now c.requires.firsts c.loop-i.labels.items c.loop-i.classes
+    (subst (λ n. IsNumbering c.args.firsts.now n c.loop-i.labels.items c.loop-i.classes) past
+    c.loop-i.invariant)

@@ -12,7 +12,8 @@ loop-x-preserved c =
     let i : ℕ = c.loop-x.x-index in
     let x : ℕ = get_or c.args.states.now i 0 in
     let was = c.loop-x.invariant in
-    let hx : x < length block = omega (arith, c.requires.in_range i 0 c.loop-x-test.true, was.len) in
+    let hx : x < length block = omega (arith, c.requires.in_range i 0 c.loop-x-test.true, was.len)
+    in
     record {
       len = length-set block x c.args.new ∙ was.len;
       moved = λ k low. (
@@ -23,7 +24,8 @@ loop-x-preserved c =
           grind (arith, nat_tests, at, before, same));
       others = λ y out. (
           let apart : y ≢ x = λ e. out i (omega arith) (sym e) in
-          get_or-set_other block x y c.args.new 0 apart ∙ was.others y (λ k low. out k (omega arith)));
+          get_or-set_other block x y c.args.new 0 apart
+          ∙ was.others y (λ k low. out k (omega arith)));
       counted = λ old apart all.
           moved_more c.args.block.now.items block c.args.states.now i old c.args.new c.requires.once
           c.loop-x-test.true hx apart all was.others (was.counted old apart all);

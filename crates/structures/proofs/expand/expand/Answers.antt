@@ -27,7 +27,8 @@ loop-i-preserved c =
       targets =
           link_targets t kids c.loop-i.i _ here c.loop-i.places c.lead.new.places
           c.in_ok-target.ensures.places c.in_ok-target.target c.loop-i.targets.items
-          c.push-in-loop-i.new.self.items _ c.in_ok-target.ensures.target c.in_ok-push-2.ensures.items
+          c.push-in-loop-i.new.self.items _ c.in_ok-target.ensures.target
+          c.in_ok-push-2.ensures.items
           c.loop-i.invariant.targets;
       few =
           link_few t kids c.loop-i.i _ here c.loop-i.places c.lead.new.places

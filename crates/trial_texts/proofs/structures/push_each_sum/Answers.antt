@@ -29,7 +29,8 @@ loop-i-preserved c = record {
 
 pub returns-clause-text : goal.returns-clause-text
 returns-clause-text c =
-    entries-done sum_text c.args.size 7 c.args.count c.loop-i.i c.loop-i.draws.number c.loop-i.text.items
+    entries-done sum_text c.args.size 7 c.args.count c.loop-i.i c.loop-i.draws.number
+    c.loop-i.text.items
     _ c.loop-i-test.false c.loop-i.invariant.text
 
 pub returns-clause-draws : goal.returns-clause-draws

@@ -12,6 +12,9 @@ pub returns : goal.returns
 returns c =
     let order = (child_form c.args.term.now c.args.p 0).compare in
     let total = child-total c.args.term.now (children_at c.args.term.now c.args.p) 0 in
-    IsSetOf-sorted order total c.args.values.items c.sort_unstable_by.new.self.items c.dedup_by.new.self.items c.sort_unstable_by.ensures.permutation
-    (c.sort_unstable_by.ensures.sorted (λ u v. is_lt (order u v)) (ranks_by total (λ x. x)) (always_returns_same _ _ _ (λ a r f k. search rules)))
-    (dedup_same _ (eq_by_cmp order) _ (λ x y b f x' y' k. search rules) _ _ c.dedup_by.ensures.filtered)
+    IsSetOf-sorted order total c.args.values.items c.sort_unstable_by.new.self.items
+    c.dedup_by.new.self.items c.sort_unstable_by.ensures.permutation
+    (c.sort_unstable_by.ensures.sorted (λ u v. is_lt (order u v)) (ranks_by total (λ x. x))
+    (always_returns_same _ _ _ (λ a r f k. search rules)))
+    (dedup_same _ (eq_by_cmp order) _ (λ x y b f x' y' k. search rules) _ _
+    c.dedup_by.ensures.filtered)

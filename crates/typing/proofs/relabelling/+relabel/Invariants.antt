@@ -29,14 +29,18 @@ abbrev pub invariant-relabel_places-loop-child : goal.invariant-relabel_places-l
 invariant-relabel_places-loop-child l = record {
   later : are_later (length l.term) l.p l.children ≡ true;
   ready : each_ready (length l.labels) (map (fits l.term) l.children) l.rest ≡ true;
-  made : (more : List Value) → Zip3 (IsRelabelledAt l.term l.labels) l.children l.rest more → Zip3 (IsRelabelledAt l.term l.labels) (children_at l.term l.p) l.values (l.new.items ++ more);
+  made : (more : List Value) → Zip3 (IsRelabelledAt l.term l.labels) l.children l.rest more
+      → Zip3 (IsRelabelledAt l.term l.labels) (children_at l.term l.p) l.values
+      (l.new.items ++ more);
 }
 
 abbrev pub decreases-relabel_places-loop-child : goal.decreases-relabel_places-loop-child
 decreases-relabel_places-loop-child l = length l.children
 
 abbrev pub invariant-relabel_each-loop-value : goal.invariant-relabel_each-loop-value
-invariant-relabel_each-loop-value l = AllZip (IsRelabelledChild l.term l.labels l.p 0) (take l.value-index l.values) l.new.items
+invariant-relabel_each-loop-value l = AllZip (IsRelabelledChild l.term l.labels l.p 0)
+    (take l.value-index l.values) l.new.items
 
 abbrev pub invariant-relabel_entries-loop-value : goal.invariant-relabel_entries-loop-value
-invariant-relabel_entries-loop-value l = AllZip (IsRelabelledEntry l.term l.labels l.p) (take l.value-index l.entries) l.new.items
+invariant-relabel_entries-loop-value l = AllZip (IsRelabelledEntry l.term l.labels l.p)
+    (take l.value-index l.entries) l.new.items

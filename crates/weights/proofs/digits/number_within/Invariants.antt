@@ -9,5 +9,6 @@ abbrev pub invariant-loop-digit : goal.invariant-loop-digit
 invariant-loop-digit l = record {
   small : l.number ≤ 2 ^ 40;
   digits : list_all is_ascii_digit (drop l.digit-index l.digits) ≡ true;
-  completes : number_after l.number (drop l.digit-index l.digits) ≡ number_after l.fn.start l.digits;
+  completes : number_after l.number (drop l.digit-index l.digits) ≡ number_after l.fn.start
+      l.digits;
 }

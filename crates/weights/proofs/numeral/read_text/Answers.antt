@@ -3,4 +3,5 @@ use Rattle.std.proofs.lemmas.List.Sums.{prefix_len-le-length}
 use Rattle.weights.proofs.numeral.read_text.Goals as goal
 
 pub split_at-requires : goal.split_at-requires
-split_at-requires c = rw c.digits_in_front.ensures.value (prefix_len-le-length is_ascii_digit c.args.text.now)
+split_at-requires c = rw c.digits_in_front.ensures.value (prefix_len-le-length is_ascii_digit
+    c.args.text.now)

@@ -4,11 +4,13 @@ use Rattle.weights.proofs.numeral.reduced.Goals as goal
 
 pub nonzero_div-numerator : goal.nonzero_div-numerator
 nonzero_div-numerator c =
-    rw c.gcd-common.ensures.value (gcd_of-positive c.args.numerator c.args.denominator c.requires.below)
+    rw c.gcd-common.ensures.value (gcd_of-positive c.args.numerator c.args.denominator
+    c.requires.below)
 
 pub nonzero_div-result : goal.nonzero_div-result
 nonzero_div-result c =
-    rw c.gcd-common.ensures.value (gcd_of-positive c.args.numerator c.args.denominator c.requires.below)
+    rw c.gcd-common.ensures.value (gcd_of-positive c.args.numerator c.args.denominator
+    c.requires.below)
 
 pub returns : goal.returns
 returns c =

@@ -5,6 +5,7 @@ pub returns : goal.returns
 returns c =
     record {
       value =
-          divisor_of_sum c.args.sum c.args.denominator c.unsigned_abs.result c.gcd.result c.ranges.sum
+          divisor_of_sum c.args.sum c.args.denominator c.unsigned_abs.result c.gcd.result
+          c.ranges.sum
           c.unsigned_abs.ensures.value c.gcd.ensures.greatest;
     }

@@ -10,7 +10,8 @@ returns g c =
     omega (arith, edge_in show c.requires, c.self.invariant.labels_len) in
     record {
       label = λ d.
-          get_or_read c.self.inside.labels.items c.args.e c.index.result.now inside c.index.ensures d
+          get_or_read c.self.inside.labels.items c.args.e c.index.result.now inside c.index.ensures
+          d
           ∙ ap (λ xs. get_or xs c.args.e d) (sym show.labels);
     }
 

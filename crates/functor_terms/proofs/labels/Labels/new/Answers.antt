@@ -5,4 +5,5 @@ use Rattle.functor_terms.proofs.NamesLemmas.{no_names}
 use Rattle.functor_terms.proofs.labels.Labels.new.Goals as goal
 
 pub invariant_of-result : goal.invariant_of-result
-invariant_of-result c = subst (λ (ks : List (Bor (List ℕ))). AreNames (map (λ w. w.now) ks)) (sym c.new.ensures.empty) no_names
+invariant_of-result c = subst (λ (ks : List (Bor (List ℕ))). AreNames (map (λ w. w.now) ks))
+    (sym c.new.ensures.empty) no_names

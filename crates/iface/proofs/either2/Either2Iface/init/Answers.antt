@@ -19,7 +19,8 @@ returns-in_ok-weight-in-Left-clause-weight g c =
     let r = c.args.self.now.right in
     weight_left (g.I.Iface.fits l) (g.I.Iface.value l) (g.I.Iface.toward l)
     (g.J.Iface.fits r) (g.J.Iface.value r) (g.J.Iface.toward r)
-    c.args.shape.now c.in-Left.s c.args.labels.now c.as_slice.result.now c.in_ok-weight-in-Left.weight c.in-Left.is c.requires.fit
+    c.args.shape.now c.in-Left.s c.args.labels.now c.as_slice.result.now
+    c.in_ok-weight-in-Left.weight c.in-Left.is c.requires.fit
     (c.as_slice.ensures.value ∙ c.in_ok-own-in-Left.ensures)
     c.in_ok-weight-in-Left.ensures.weight
 
@@ -29,7 +30,8 @@ returns-in_ok-weight-in-Left-clause-three g c =
     let r = c.args.self.now.right in
     three_left (g.I.Iface.fits l) (g.I.Iface.value l) (g.I.Iface.toward l)
     (g.J.Iface.fits r) (g.J.Iface.value r) (g.J.Iface.toward r)
-    c.args.shape.now c.in-Left.s c.args.labels.now c.as_slice.result.now c.in_ok-weight-in-Left.three c.in-Left.is c.requires.fit
+    c.args.shape.now c.in-Left.s c.args.labels.now c.as_slice.result.now
+    c.in_ok-weight-in-Left.three c.in-Left.is c.requires.fit
     (c.as_slice.ensures.value ∙ c.in_ok-own-in-Left.ensures)
     c.in_ok-weight-in-Left.ensures.three
 
@@ -49,7 +51,8 @@ init-requires-in-Right-clause-few g c =
     let r = c.args.self.now.right in
     let same = length_right (g.I.Iface.fits l) (g.I.Iface.value l) (g.I.Iface.toward l)
     (g.J.Iface.fits r) (g.J.Iface.value r) (g.J.Iface.toward r)
-    c.args.shape.now c.in-Right.s c.args.labels.now c.as_slice-in-Right.result.now c.in-Right.is c.requires.fit
+    c.args.shape.now c.in-Right.s c.args.labels.now c.as_slice-in-Right.result.now c.in-Right.is
+    c.requires.fit
     (c.as_slice-in-Right.ensures.value ∙ c.in_ok-own-in-Right.ensures) in
     omega (arith, same, c.requires.few)
 
@@ -59,7 +62,8 @@ returns-in_ok-weight-in-Right-clause-weight g c =
     let r = c.args.self.now.right in
     weight_right (g.I.Iface.fits l) (g.I.Iface.value l) (g.I.Iface.toward l)
     (g.J.Iface.fits r) (g.J.Iface.value r) (g.J.Iface.toward r)
-    c.args.shape.now c.in-Right.s c.args.labels.now c.as_slice-in-Right.result.now c.in_ok-weight-in-Right.weight c.in-Right.is c.requires.fit
+    c.args.shape.now c.in-Right.s c.args.labels.now c.as_slice-in-Right.result.now
+    c.in_ok-weight-in-Right.weight c.in-Right.is c.requires.fit
     (c.as_slice-in-Right.ensures.value ∙ c.in_ok-own-in-Right.ensures)
     c.in_ok-weight-in-Right.ensures.weight
 
@@ -69,7 +73,8 @@ returns-in_ok-weight-in-Right-clause-three g c =
     let r = c.args.self.now.right in
     three_right (g.I.Iface.fits l) (g.I.Iface.value l) (g.I.Iface.toward l)
     (g.J.Iface.fits r) (g.J.Iface.value r) (g.J.Iface.toward r)
-    c.args.shape.now c.in-Right.s c.args.labels.now c.as_slice-in-Right.result.now c.in_ok-weight-in-Right.three c.in-Right.is c.requires.fit
+    c.args.shape.now c.in-Right.s c.args.labels.now c.as_slice-in-Right.result.now
+    c.in_ok-weight-in-Right.three c.in-Right.is c.requires.fit
     (c.as_slice-in-Right.ensures.value ∙ c.in_ok-own-in-Right.ensures)
     c.in_ok-weight-in-Right.ensures.three
 
@@ -79,6 +84,7 @@ returns-in_ok-weight-in-Right-clause-counted g c =
     let r = c.args.self.now.right in
     let same = length_right (g.I.Iface.fits l) (g.I.Iface.value l) (g.I.Iface.toward l)
     (g.J.Iface.fits r) (g.J.Iface.value r) (g.J.Iface.toward r)
-    c.args.shape.now c.in-Right.s c.args.labels.now c.as_slice-in-Right.result.now c.in-Right.is c.requires.fit
+    c.args.shape.now c.in-Right.s c.args.labels.now c.as_slice-in-Right.result.now c.in-Right.is
+    c.requires.fit
     (c.as_slice-in-Right.ensures.value ∙ c.in_ok-own-in-Right.ensures) in
     omega (arith, same, c.in_ok-weight-in-Right.ensures.counted)

@@ -10,7 +10,8 @@ update-requires-clause-cell g c =
     let r = c.args.self.now.right in
     let found = cell_left (g.I.Iface.fits l) (g.I.Iface.value l) (g.I.Iface.toward l)
     (g.J.Iface.fits r) (g.J.Iface.value r) (g.J.Iface.toward r)
-    c.in-Left.w c.args.weight.now c.args.moved.now c.as_slice.result.now c.requires.cell.0 c.requires.cell.1 c.requires.cell.2
+    c.in-Left.w c.args.weight.now c.args.moved.now c.as_slice.result.now c.requires.cell.0
+    c.requires.cell.1 c.requires.cell.2
     c.in-Left.is (c.as_slice.ensures.value ∙ c.in_ok-own-in-Left.ensures) c.requires.cell.3 in
     (found.0, lefts c.requires.cell.1, c.requires.cell.2, found.4)
 
@@ -20,7 +21,8 @@ update-requires-clause-few g c =
     let r = c.args.self.now.right in
     let found = cell_left (g.I.Iface.fits l) (g.I.Iface.value l) (g.I.Iface.toward l)
     (g.J.Iface.fits r) (g.J.Iface.value r) (g.J.Iface.toward r)
-    c.in-Left.w c.args.weight.now c.args.moved.now c.as_slice.result.now c.requires.cell.0 c.requires.cell.1 c.requires.cell.2
+    c.in-Left.w c.args.weight.now c.args.moved.now c.as_slice.result.now c.requires.cell.0
+    c.requires.cell.1 c.requires.cell.2
     c.in-Left.is (c.as_slice.ensures.value ∙ c.in_ok-own-in-Left.ensures) c.requires.cell.3 in
     omega (arith, found.3, c.requires.few)
 
@@ -43,7 +45,8 @@ returns-in_ok-update-in-Left-clause-counted g c =
     let r = c.args.self.now.right in
     let found = cell_left (g.I.Iface.fits l) (g.I.Iface.value l) (g.I.Iface.toward l)
     (g.J.Iface.fits r) (g.J.Iface.value r) (g.J.Iface.toward r)
-    c.in-Left.w c.args.weight.now c.args.moved.now c.as_slice.result.now c.requires.cell.0 c.requires.cell.1 c.requires.cell.2
+    c.in-Left.w c.args.weight.now c.args.moved.now c.as_slice.result.now c.requires.cell.0
+    c.requires.cell.1 c.requires.cell.2
     c.in-Left.is (c.as_slice.ensures.value ∙ c.in_ok-own-in-Left.ensures) c.requires.cell.3 in
     omega (arith, found.3, c.in_ok-update-in-Left.ensures.counted)
 
@@ -53,8 +56,10 @@ update-requires-in-Right-clause-cell g c =
     let r = c.args.self.now.right in
     let found = cell_right (g.I.Iface.fits l) (g.I.Iface.value l) (g.I.Iface.toward l)
     (g.J.Iface.fits r) (g.J.Iface.value r) (g.J.Iface.toward r)
-    c.in-Right.w c.args.weight.now c.args.moved.now c.as_slice-in-Right.result.now c.requires.cell.0 c.requires.cell.1 c.requires.cell.2
-    c.in-Right.is (c.as_slice-in-Right.ensures.value ∙ c.in_ok-own-in-Right.ensures) c.requires.cell.3 in
+    c.in-Right.w c.args.weight.now c.args.moved.now c.as_slice-in-Right.result.now c.requires.cell.0
+    c.requires.cell.1 c.requires.cell.2
+    c.in-Right.is (c.as_slice-in-Right.ensures.value ∙ c.in_ok-own-in-Right.ensures)
+    c.requires.cell.3 in
     (found.0, rights c.requires.cell.1, c.requires.cell.2, found.4)
 
 pub update-requires-in-Right-clause-few : goal.update-requires-in-Right-clause-few
@@ -63,8 +68,10 @@ update-requires-in-Right-clause-few g c =
     let r = c.args.self.now.right in
     let found = cell_right (g.I.Iface.fits l) (g.I.Iface.value l) (g.I.Iface.toward l)
     (g.J.Iface.fits r) (g.J.Iface.value r) (g.J.Iface.toward r)
-    c.in-Right.w c.args.weight.now c.args.moved.now c.as_slice-in-Right.result.now c.requires.cell.0 c.requires.cell.1 c.requires.cell.2
-    c.in-Right.is (c.as_slice-in-Right.ensures.value ∙ c.in_ok-own-in-Right.ensures) c.requires.cell.3 in
+    c.in-Right.w c.args.weight.now c.args.moved.now c.as_slice-in-Right.result.now c.requires.cell.0
+    c.requires.cell.1 c.requires.cell.2
+    c.in-Right.is (c.as_slice-in-Right.ensures.value ∙ c.in_ok-own-in-Right.ensures)
+    c.requires.cell.3 in
     omega (arith, found.3, c.requires.few)
 
 pub returns-in_ok-update-in-Right-clause-updated : goal.returns-in_ok-update-in-Right-clause-updated
@@ -73,7 +80,8 @@ returns-in_ok-update-in-Right-clause-updated g c shape labels trits cell =
     let r = c.args.self.now.right in
     let found = cell_right (g.I.Iface.fits l) (g.I.Iface.value l) (g.I.Iface.toward l)
     (g.J.Iface.fits r) (g.J.Iface.value r) (g.J.Iface.toward r)
-    c.in-Right.w c.args.weight.now c.args.moved.now c.as_slice-in-Right.result.now shape labels trits
+    c.in-Right.w c.args.weight.now c.args.moved.now c.as_slice-in-Right.result.now shape labels
+    trits
     c.in-Right.is (c.as_slice-in-Right.ensures.value ∙ c.in_ok-own-in-Right.ensures) cell in
     let updated = c.in_ok-update-in-Right.ensures.updated found.0 (rights labels) trits found.4 in
     updated_right (g.I.Iface.fits l) (g.I.Iface.value l) (g.I.Iface.toward l)
@@ -86,6 +94,8 @@ returns-in_ok-update-in-Right-clause-counted g c =
     let r = c.args.self.now.right in
     let found = cell_right (g.I.Iface.fits l) (g.I.Iface.value l) (g.I.Iface.toward l)
     (g.J.Iface.fits r) (g.J.Iface.value r) (g.J.Iface.toward r)
-    c.in-Right.w c.args.weight.now c.args.moved.now c.as_slice-in-Right.result.now c.requires.cell.0 c.requires.cell.1 c.requires.cell.2
-    c.in-Right.is (c.as_slice-in-Right.ensures.value ∙ c.in_ok-own-in-Right.ensures) c.requires.cell.3 in
+    c.in-Right.w c.args.weight.now c.args.moved.now c.as_slice-in-Right.result.now c.requires.cell.0
+    c.requires.cell.1 c.requires.cell.2
+    c.in-Right.is (c.as_slice-in-Right.ensures.value ∙ c.in_ok-own-in-Right.ensures)
+    c.requires.cell.3 in
     omega (arith, found.3, c.in_ok-update-in-Right.ensures.counted)

@@ -90,9 +90,11 @@ returns c = record {
       let moved = c.args.moved.now in
       let i = kept sums.inside (small_inside ws kind shape labels trits k.fit k.are_trits sums moved
       k.weight_is k.moved_is) in
-      let o = kept sums.outside (small_outside ws kind shape labels trits k.fit k.are_trits sums moved
+      let o = kept sums.outside (small_outside ws kind shape labels trits k.fit k.are_trits sums
+      moved
       k.weight_is k.moved_is) in
-      let p : to_z w128 (of_z w128 c.total_at-part.result) ≡ c.total_at-part.result = search rules in
+      let p : to_z w128 (of_z w128 c.total_at-part.result) ≡ c.total_at-part.result =
+      search rules in
       let r : to_z w128 (of_z w128 c.sub-rest.result) ≡ c.sub-rest.result = search rules in
       let x : to_z w128 (of_z w128 c.add-other.result) ≡ c.add-other.result = search rules in
       let y : to_z w128 (of_z w128 c.add-others.result) ≡ c.add-others.result = search rules in

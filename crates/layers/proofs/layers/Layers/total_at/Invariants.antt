@@ -8,5 +8,6 @@ use Rattle.layers.proofs.layers.Layers.total_at.Given as goal
 
 abbrev pub invariant-loop-i : goal.invariant-loop-i
 invariant-loop-i l = record {
-  so_far : IsSoFar (λ x. x) (pos 0) add integers_laws l.sum (weights_at l.self.weights.items (drop l.i l.labels)) (weights_at l.self.weights.items l.labels);
+  so_far : IsSoFar (λ x. x) (pos 0) add integers_laws l.sum (weights_at l.self.weights.items
+      (drop l.i l.labels)) (weights_at l.self.weights.items l.labels);
 }

@@ -5,4 +5,5 @@ use Rattle.modalities.proofs.order.ThreeOrd.cmp.Goals as goal
 
 pub returns-clause-equal_exactly : goal.returns-clause-equal_exactly
 returns-clause-equal_exactly c =
-    subst (λ r. r ≡ Equal ↔ (c.args.self.now ≡ c.args.other.now)) (sym c.compared.ensures) (three_equal_exactly c.args.self.now c.args.other.now)
+    subst (λ r. r ≡ Equal ↔ (c.args.self.now ≡ c.args.other.now)) (sym c.compared.ensures)
+    (three_equal_exactly c.args.self.now c.args.other.now)
