@@ -44,7 +44,7 @@ pub fn ran<R: Files + AllocGlobal, O: Write + Drop, E: Write + Drop>(
     out: O,
     err: E,
 ) -> Status {
-    let mut folder = DiskFolder::new(rt, rt.alloc());
+    let mut folder = DiskFolder::new(rt);
     let mut out = Stream::new(out);
     let mut err = Stream::new(err);
     let blank = Blank::new(1);

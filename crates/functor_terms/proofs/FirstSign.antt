@@ -10,7 +10,7 @@ use Rattle.functor_terms.specs.Signs.{outside, inside, signs_at, place_in, begin
 use Rattle.functor_terms.specs.declared.sign.Sign.TheVariants.{Times, OpenBrace, CloseBrace, Comma, Digits, Word, Stray}
 
 -- a blank at the front is left out
-skip : (braces : Bool) (b : ℕ) (bytes : List ℕ) → is_blank b ≡ true
+pub skip : (braces : Bool) (b : ℕ) (bytes : List ℕ) → is_blank b ≡ true
     → signs_at (place_in braces) (b ∷ bytes) ≡ signs_at (place_in braces) bytes
 unfolding signs_at
 skip true b bytes e = rw e refl

@@ -23,3 +23,4 @@ pub mod ChainLoop
 pub mod DescentLaws
 pub mod TermReading
 pub mod FewChildren
+pub mod CutLaws

@@ -3,6 +3,7 @@ pub mod Lists
 pub mod Terms
 pub mod Spelling
 pub mod Signs
+pub mod Cut
 pub mod Grammar
 pub mod Reading
 pub mod Text

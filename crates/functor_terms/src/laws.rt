@@ -1,6 +1,14 @@
 //! Laws of the definitions, each the contract of a function that does nothing.
+ghost use Rattle.functor_terms.specs.Cut.{OneCut, TextsAreCut};
 ghost use Rattle.functor_terms.specs.Grammar.{OneTerm, OnlyTerms};
 ghost use Rattle.functor_terms.specs.Text.{TextsSpell};
+
+/// Each functor line is cut into its tokens, with blanks alone between them, and into no others.
+/// Digits and words are as long as can be.
+pub fn lines_are_cut()
+    ensures each { TextsAreCut }
+    ensures one { OneCut }
+{}
 
 /// No text spells two terms, and what a text spells is a term.
 pub fn one_reading()

@@ -32,7 +32,7 @@ mod text;
 
 pub use fault::{PartFault, TermFault};
 pub use labels::Labels;
-pub use laws::{one_reading, texts_spell_terms};
+pub use laws::{lines_are_cut, one_reading, texts_spell_terms};
 pub use node::{Branch, LabelSet, Node};
 pub use part::TermPart;
 pub use reading::read_term;

@@ -6,20 +6,21 @@ ghost use Rattle.outside.specs.Reads.{GotWithin};
 
 use crate::piece_of;
 use outside::{Folder, Piece};
-use std::alloc::Global;
 use std::io::{Read, Seek, SeekFrom};
 use std::marker::Model;
 use std::rt::Files;
 use std::{fs, io};
 
+/// One more than the bytes that the name of a file may have, as the system has it.
+const NAME_LIMIT: usize = 4096;
+
 /// The files of the system. What they hold is not told, and one count of faults serves every name.
 ///
 /// The file that was read last stays open, so a file that is replaced meanwhile is read to its end
-/// as it was.
+/// as it was. No call takes memory.
 #[derive(Drop)]
 pub struct DiskFolder<'a, R: Files> {
     rt: &'a R,
-    alloc: Global,
     last: Option<Opened<R::File>>,
     faults: u64,
 }
@@ -27,7 +28,10 @@ pub struct DiskFolder<'a, R: Files> {
 /// A file that is open.
 #[derive(Drop)]
 struct Opened<F: Drop> {
-    name: String,
+    // the bytes of its name, in front of zeros
+    name: [u8; NAME_LIMIT],
+    // how many these are
+    len: usize,
     file: F,
     // the place of the next byte that a read without a seek gives
     at: u64,
@@ -43,12 +47,11 @@ impl<'a, R: Files> Model for DiskFolder<'a, R> {
 
 impl<'a, R: Files> DiskFolder<'a, R> {
     /// The files that this runtime opens. No fault is counted yet.
-    pub fn new(rt: &'a R, alloc: Global) -> Self
+    pub fn new(rt: &'a R) -> Self
         ensures no_fault { result ≡ 0 }
     {
         DiskFolder {
             rt,
-            alloc,
             last: None,
             faults: 0,
         }
@@ -74,14 +77,26 @@ impl<'a, R: Files> DiskFolder<'a, R> {
     fn open(&mut self, name: &str) -> io::Result<Opened<R::File>>
         ensures no_fault_is_counted { self.new ≡ self.old }
     {
-        if let Some(last) = self.last.take() {
-            if last.name.as_str() == name {
+        let last = self.last.take();
+        let bytes = name.as_bytes();
+        let len = bytes.len();
+        if NAME_LIMIT <= len {
+            return Err(io::Error::from(io::ErrorKind::InvalidFilename));
+        }
+        if let Some(last) = last {
+            if last.len == len && &last.name[..len] == bytes {
                 return Ok(last);
             }
         }
         let file = fs::open(self.rt, name)?;
-        let name = String::from_str(self.alloc, name)?;
-        Ok(Opened { name, file, at: 0 })
+        let mut name = [0u8; NAME_LIMIT];
+        name[..len].copy_from_slice(bytes);
+        Ok(Opened {
+            name,
+            len,
+            file,
+            at: 0,
+        })
     }
 }
 

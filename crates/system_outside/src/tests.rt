@@ -7,13 +7,29 @@ use std::fs;
 
 #[test]
 fn an_absent_file_and_a_folder_fail_and_are_counted(rt: HostRuntime) {
-    let mut folder = DiskFolder::new(&rt, rt.alloc());
+    let mut folder = DiskFolder::new(&rt);
     let mut buffer = [0u8; 8];
     for name in ["no such file", "/", "/dev"] {
         let piece = folder.read_piece(name, 0, &mut buffer);
         assert_eq!(rt; piece, Piece::Failed, "{name}");
     }
     assert_eq!(rt; folder.read_piece("/dev/null", 0, &mut buffer), Piece::End);
+    assert_eq!(rt;
+        folder.read_piece("/dev/zero", 0, &mut buffer),
+        Piece::Got(8)
+    );
+}
+
+#[test]
+fn a_name_that_is_too_long_fails(rt: HostRuntime) {
+    let slashes = [b'/'; 4096];
+    let longest = std::str::from_utf8(&slashes[..4095]).unwrap_or("");
+    let longer = std::str::from_utf8(&slashes).unwrap_or("");
+    let mut folder = DiskFolder::new(&rt);
+    let mut buffer = [0u8; 8];
+    for name in [longest, longer, longest] {
+        assert_eq!(rt; folder.read_piece(name, 0, &mut buffer), Piece::Failed);
+    }
     assert_eq!(rt;
         folder.read_piece("/dev/zero", 0, &mut buffer),
         Piece::Got(8)

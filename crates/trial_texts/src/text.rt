@@ -21,7 +21,7 @@ pub fn trial_text(
     requires sized { IsSized size }
     ensures text { IfOk result (λ text. text.items ≡ text_of_trial kind seed size) }
 {
-    let mut text = Vec::with_capacity(alloc, 48 * size as usize)?;
+    let mut text = Vec::new(alloc);
     let mut draws = Draws { number: seed };
     push_functor(&mut text, kind)?;
     for state in 0..size {
