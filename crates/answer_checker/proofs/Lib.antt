@@ -1,12 +1,12 @@
-pub mod Firsts
-pub mod Alike
-pub mod Placed
-pub mod Counts
-pub mod PutStates
-pub mod LeastLines
-pub mod Citing
-pub mod WrongLines
-pub mod RightAnswers
-pub mod Texts
-pub mod Judged
-pub mod Alone
+mod Alike
+mod Alone
+mod Citing
+mod Counts
+mod Firsts
+mod Judged
+mod LeastLines
+mod Placed
+mod PutStates
+mod RightAnswers
+mod Texts
+mod WrongLines

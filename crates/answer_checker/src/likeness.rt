@@ -56,7 +56,7 @@ fn first_apart(term: &Term, forms: &[Value], firsts: &[u32]) -> Option<Reason>
         AllZip (IsRelabelledAt term.now numbers 0) values forms.now →
         AreFirstsOf numbers firsts.now → IsDifferent term.now values numbers reason) }
 {
-    let _count = term.len();
+    term.is_term();
     for y in 0..firsts.len() {
         let x = firsts[y];
         match compare(term, 0, &forms[x as usize], &forms[y]) {

@@ -63,7 +63,7 @@ fn evaluate_through(
     ensures dag { IfOk result (λ _. truths.new.dag ≡ dag.now) }
     ensures next { IfOk result (λ _. truths.new.next ≡ f + 1) }
 {
-    let _count = dag.len();
+    dag.is_dag();
     for _k in next..f + 1 {
         truths.advance(c, dag)?;
     }

@@ -1,8 +1,10 @@
+-- Crates above cite lemmas of these.
 pub mod Along
-pub mod Marks
-pub mod Sums
-pub mod BySource
-pub mod Histories
 pub mod Composed
 pub mod Counting
-pub mod Classes
+-- Crates above do not cite these.
+mod BySource
+mod Classes
+mod Histories
+mod Marks
+mod Sums

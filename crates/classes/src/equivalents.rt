@@ -48,7 +48,7 @@ pub fn firsts_of(
 {
     greatest_is_equivalence();
     stable_labellings_give_stable_lists();
-    let _nodes = c.term.len();
+    c.term.is_term();
     let n = c.names.len();
     let refined = &refinement.refined;
     let firsts = first_places(alloc, refined.block_of(), refined.blocks(), n)?;

@@ -58,7 +58,7 @@ pub fn refinement_of<L: Ledger>(
     ensures grows { steps.old ≤ steps.new }
 {
     sorted_states_are_a_system();
-    let _nodes = c.term.len();
+    c.term.is_term();
     let system = desort(alloc, c)?;
     let edges = system.edges();
     let _sources = edges.states();

@@ -1,4 +1,4 @@
-mod Taken
 mod ByClap
-mod Numbers
 mod Drawable
+mod Numbers
+mod Taken

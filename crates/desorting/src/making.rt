@@ -18,7 +18,7 @@ pub fn desort(alloc: Global, c: &Coalgebra) -> Result<System, AllocError>
     ensures desorted { IfOk result (λ s.
         IsDesorted c.now.term c.now.values.items c.now.denominator s) }
 {
-    let _nodes = c.term.len();
+    c.term.is_term();
     let states = c.names.len();
     let Structures {
         places,

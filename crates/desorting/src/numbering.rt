@@ -64,7 +64,7 @@ pub(crate) fn numbered(
     ensures numbered { IfOk result (λ n. AreNumbered term.now table.new.shapes
         table.new.weights places.now n.shapes.items n.labels.items) }
 {
-    let _nodes = term.len();
+    term.is_term();
     let mut shapes = Vec::with_capacity(alloc, places.len())?;
     let mut labels = Vec::with_capacity(alloc, edges)?;
     for i in 0..places.len() {

@@ -1,5 +1,8 @@
+-- Crates above cite lemmas of these.
 pub mod Counts
-pub mod Places
-pub mod Filling
 pub mod Ranges
-pub mod Shown
+
+-- Crates above do not cite these.
+mod Filling
+mod Places
+mod Shown

@@ -1,7 +1,7 @@
-pub mod UseLaws
-pub mod FirstLaws
-pub mod JointLaws
-pub mod ValueTests
-pub mod RowLaws
-pub mod EdgeLaws
-pub mod BitLaws
+mod BitLaws
+mod EdgeLaws
+mod FirstLaws
+mod JointLaws
+mod RowLaws
+mod UseLaws
+mod ValueTests

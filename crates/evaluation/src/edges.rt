@@ -22,7 +22,7 @@ pub(crate) fn laid_out<'a>(alloc: Global, c: &'a Coalgebra) -> Result<LaidOut<'a
     ensures { IfOk result (λ s. AreLaidOut c.now.term c.now.values.items s.places s.firsts.items
         s.targets.items) }
 {
-    let _nodes = c.term.len();
+    c.term.is_term();
     let Structures {
         places,
         sources,

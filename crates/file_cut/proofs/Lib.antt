@@ -1,8 +1,11 @@
+-- Crates above cite lemmas of these.
 pub mod CutLaws
-pub mod FindLaws
-pub mod ItemLaws
 pub mod LineLaws
-pub mod LoopLaws
-pub mod RawLaws
 pub mod TokenLaws
 pub mod TreeLaws
+
+-- Crates above do not cite these.
+mod FindLaws
+mod ItemLaws
+mod LoopLaws
+mod RawLaws

@@ -1,8 +1,8 @@
-mod Sizes
-mod Shrinks
-mod TreeSizes
+mod FileSizes
 mod FitSizes
 mod LineSizes
-mod FileSizes
-mod Relabelled
 mod QuotientSizes
+mod Relabelled
+mod Shrinks
+mod Sizes
+mod TreeSizes

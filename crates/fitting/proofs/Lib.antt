@@ -1,17 +1,19 @@
-pub mod FitFacts
-pub mod FitLoops
-pub mod Inversions
-pub mod FitSound
-pub mod ScaleLoops
-pub mod ScaleFacts
-pub mod Shapes
+-- Crates above cite lemmas of these.
 pub mod FitNumerals
-pub mod ScaledBounds
-pub mod FitWeights
+pub mod FitSound
+pub mod Inversions
 pub mod JoinLaws
-pub mod JoinLoops
-pub mod SumFacts
-pub mod ScaleSound
-pub mod TreeLengths
 pub mod ListLengths
+pub mod ScaleSound
 pub mod ScaledFractions
+pub mod TreeLengths
+-- Crates above do not cite these.
+mod FitFacts
+mod FitLoops
+mod FitWeights
+mod JoinLoops
+mod ScaleFacts
+mod ScaleLoops
+mod ScaledBounds
+mod Shapes
+mod SumFacts

@@ -28,7 +28,7 @@ pub fn fit(alloc: Global, term: &Term, tree: &Tree, names: &Names) -> Result<Fit
     ensures numerals { IfOk result (λ fitted. IsTrue (are_numerals fitted)) }
 {
     // a term has a node
-    let _count = term.len();
+    term.is_term();
     fit_at(alloc, term, names, 0, tree)
 }
 

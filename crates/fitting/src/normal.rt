@@ -58,7 +58,7 @@ pub fn scale(
     ensures bad_sum { result ≡ Err BadSum → has_sums l term.now 0 fitted.now ≡ false }
 {
     // a term has a node
-    let _count = term.len();
+    term.is_term();
     let value = scaled_at(alloc, term, 0, l, fitted)?;
     if !sums_at(term, 0, l, &value) {
         return Err(ScaleFault::BadSum);

@@ -56,7 +56,7 @@ fn mark_through(marks: &mut Vec<bool>, dag: &Dag, k: u32)
         AreReasoned dag.now wanted marks.new.items }
 {
     // The formulas stand in their order.
-    let _ordered = dag.len();
+    dag.is_dag();
     if marks[k as usize] {
         mark_cited(marks, dag.formula(k));
     }
@@ -130,7 +130,7 @@ fn keep(
         (AreKept dag.now marks.now small.new numbers.new.items (k + 1)) }
 {
     // The formulas stand in their order.
-    let _ordered = dag.len();
+    dag.is_dag();
     let formula = renumber(alloc, dag.formula(k), numbers.as_slice())?;
     numbers.push(small.len())?;
     if marks[k as usize] {
@@ -174,7 +174,7 @@ pub fn only_cited(alloc: Global, dag: &Dag, wanted: &[u32]) -> Result<(Dag, Vec<
     ensures { IfOk result (λ r. IsOnlyCited dag.now wanted.now r.0 r.1.items) }
 {
     // The formulas stand in their order.
-    let _ordered = dag.len();
+    dag.is_dag();
     let marks = needed(alloc, dag, wanted)?;
     let (small, numbers) = kept(alloc, dag, marks.as_slice())?;
     let new = new_numbers(alloc, numbers.as_slice(), wanted)?;

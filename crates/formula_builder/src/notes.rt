@@ -31,7 +31,7 @@ fn put(dag: &mut Dag, formula: Formula) -> Result<u32, AllocError>
 {
     let k = dag.push(formula)?;
     // The formulas stand in their order.
-    let _ordered = dag.len();
+    dag.is_dag();
     Ok(k)
 }
 
@@ -137,7 +137,7 @@ impl Notes {
             splitter coarse split.now.parts.now) }
     {
         // The formulas stand in their order.
-        let _ordered = self.dag.len();
+        self.dag.is_dag();
         let parent = self.blocks[split.parent as usize];
         let node = self.nodes[split.parent as usize];
         for part in split.parts {
@@ -159,7 +159,7 @@ impl Notes {
             (length self.new.nodes.items ≡ length self.old.nodes.items) }
     {
         // The formulas stand in their order.
-        let _ordered = self.dag.len();
+        self.dag.is_dag();
         let splitter = self.blocks[round.splitter as usize];
         let coarse = self.coarse[round.coarse as usize];
         for k in 0..round.splits.len() {

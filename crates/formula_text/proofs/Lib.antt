@@ -1,8 +1,11 @@
-pub mod Pushed
+-- Crates above cite lemmas of these.
 pub mod NumberLaws
 pub mod ValueLaws
-pub mod PartLaws
-pub mod ReadLaws
-pub mod ReadBack
-pub mod DigitLaws
-pub mod LineLaws
+
+-- Crates above do not cite these.
+mod DigitLaws
+mod LineLaws
+mod PartLaws
+mod Pushed
+mod ReadBack
+mod ReadLaws

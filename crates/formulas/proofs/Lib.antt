@@ -1,1 +1,2 @@
+-- Crates above cite lemmas of these.
 pub mod TruthLaws

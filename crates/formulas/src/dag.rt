@@ -35,6 +35,13 @@ impl Dag {
         }
     }
 
+    /// What holds of every dag. Nothing is read or done.
+    pub fn is_dag(&self)
+        ensures { IsDag self.now }
+    {
+        let _items = &self.items;
+    }
+
     /// How many formulas there are: fewer than 2^32.
     pub fn len(&self) -> u32
         ensures count { result ≡ length self.now }

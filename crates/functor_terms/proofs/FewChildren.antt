@@ -1,9 +1,8 @@
 -- A node of a term has fewer children than the term has nodes.
-use Rattle.std.proofs.Common.{◌≡◌, ℕ, zero, suc, ◌+◌, ◌<◌, ◌≤◌, List, [], ◌∷◌, ◌++◌, length, map, refl, sym, ap, ◌∙◌, subst, arith, length-append}
+use Rattle.std.proofs.Common.{◌≡◌, ℕ, zero, suc, ◌+◌, ◌<◌, ◌≤◌, List, [], ◌∷◌, ◌++◌, length, map, sym, ap, ◌∙◌, subst, arith, length-append}
 use Rattle.std.proofs.lemmas.List.{length-map}
 use Rattle.std.specs.List.{AllByRecursion}
 use Rattle.functor_terms.specs.declared.node.Node.{Node}
-use Rattle.functor_terms.specs.declared.node.Branch.{Branch}
 use Rattle.functor_terms.specs.Terms.{Nodes, Part, IsPart, IsTerm, starts, nodes_of, over, placed, children_at, depth_limit}
 use Rattle.functor_terms.proofs.TermLaws.{placed-length, term-some}
 

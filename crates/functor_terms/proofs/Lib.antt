@@ -1,26 +1,28 @@
-pub mod DigitLaws
+-- Crates above cite lemmas of these.
+pub mod FewChildren
 pub mod Folds
-pub mod GrammarLaws
-pub mod ItemLaws
-pub mod LabelLaws
-pub mod MonotoneLaws
 pub mod NamesLemmas
-pub mod OverLaws
 pub mod PartFolds
 pub mod PartLaws
 pub mod ReadingLaws
-pub mod SignTests
 pub mod TermLaws
 pub mod TextLaws
 pub mod TextSteps
-pub mod TextTokens
 pub mod WordLemmas
-pub mod FirstSign
-pub mod LoopLaws
-pub mod GiveLaws
-pub mod WordLoop
-pub mod ChainLoop
-pub mod DescentLaws
-pub mod TermReading
-pub mod FewChildren
-pub mod CutLaws
+-- Crates above do not cite these.
+mod ChainLoop
+mod CutLaws
+mod DescentLaws
+mod DigitLaws
+mod FirstSign
+mod GiveLaws
+mod GrammarLaws
+mod ItemLaws
+mod LabelLaws
+mod LoopLaws
+mod MonotoneLaws
+mod OverLaws
+mod SignTests
+mod TermReading
+mod TextTokens
+mod WordLoop

@@ -11,12 +11,12 @@ use Rattle.functor_terms.specs.declared.sign.Sign.{Sign}
 use Rattle.functor_terms.specs.declared.sign.Sign.TheVariants.{X, P, B, D, N, Z, Q, Plus, Times, Caret, Open, Close}
 use Rattle.functor_terms.specs.Terms.{Part, IsPart, HasLabels, AreLabels, takes, deepest, placed, over}
 use Rattle.functor_terms.specs.Signs.{outside, begins, signs, signs_at}
-use Rattle.functor_terms.specs.Grammar.{prefix_of, weights_of, letter_of, powers, SpellsEach, SpellsBase, SpellsPrefix, SpellsSum, SpellsInside, open_limit}
+use Rattle.functor_terms.specs.Grammar.{prefix_of, weights_of, letter_of, SpellsEach, SpellsBase, SpellsPrefix, SpellsSum, SpellsInside, open_limit}
 use Rattle.functor_terms.specs.Grammar.SpellsBase.{weights, letter, constant, group}
 use Rattle.functor_terms.specs.Text.{Shown, shown, prefix_level, power_level, sum_level, level_of, enclosed, within, label_text, node_text, shown_over, shown_at, text_of_term, TextsSpell}
 use Rattle.functor_terms.proofs.TermLaws.{IsBlock, part-block, part-tight}
 use Rattle.functor_terms.proofs.PartFolds.{fold-over}
-use Rattle.functor_terms.proofs.PartLaws.{IsOwnPart, over-own, labels-are, each-part, base-part, prefix-part, power-part, product-part, sum-part, inside-part}
+use Rattle.functor_terms.proofs.PartLaws.{IsOwnPart, over-own}
 use Rattle.functor_terms.proofs.GrammarLaws.{base-none}
 use Rattle.functor_terms.proofs.MonotoneLaws.{inside-more, SpellsLevel, level-more, level-up, power-push}
 use Rattle.functor_terms.proofs.TextTokens.{Lexes, lexes-append, lexes-enclosed, labels-shown}

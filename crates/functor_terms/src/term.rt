@@ -22,6 +22,13 @@ impl<'a> Model for Term<'a> {
 }
 
 impl<'a> Term<'a> {
+    /// What holds of every term. Nothing is read or done.
+    pub fn is_term(&self)
+        ensures { IsTerm self.now }
+    {
+        let _nodes = &self.nodes;
+    }
+
     /// How many nodes there are, from 1 to 256.
     pub fn len(&self) -> u32
         ensures count { result ≡ length self.now }

@@ -1,4 +1,4 @@
-pub mod Bounded
-pub mod EqualityAt
-pub mod PairLaws
+mod Bounded
+mod EqualityAt
 mod InBounds
+mod PairLaws

@@ -70,7 +70,7 @@ fn place_of(term: &Term, values: &[Value], u: &Value) -> u32
     requires one { IsTrue (is_bounded u.now) }
     ensures { result ≡ first_place term.now values.now u.now }
 {
-    let _count = term.len();
+    term.is_term();
     let mut place = 0u32;
     for v in values {
         if are_equal(term, 0, v, u) {

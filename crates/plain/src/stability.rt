@@ -70,7 +70,7 @@ fn is_like(term: &Term, label: u32, u: &Value, labels: &[u32], values: &[Value])
     requires bounded { IsTrue (list_all is_bounded values.now) }
     ensures { result ≡ are_like term.now label u.now labels.now values.now }
 {
-    let _count = term.len();
+    term.is_term();
     let (mut rest, mut right) = (labels, values);
     while let Some((other, more)) = rest.split_first() {
         let Some((v, more_right)) = right.split_first() else {

@@ -1,9 +1,9 @@
-pub mod Picks
-pub mod Composed
-pub mod QuotientLaws
-pub mod Classes
-pub mod OwnQuotient
-pub mod NumberLaws
-pub mod ClassLaws
 mod BlockLists
+mod ClassLaws
+mod Classes
+mod Composed
 mod Firsts
+mod NumberLaws
+mod OwnQuotient
+mod Picks
+mod QuotientLaws

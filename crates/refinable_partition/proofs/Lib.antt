@@ -1,6 +1,6 @@
-pub mod Lists
-pub mod Viewed
-pub mod Ranges
-pub mod Marking
-pub mod Counting
-pub mod Splitting
+mod Counting
+mod Lists
+mod Marking
+mod Ranges
+mod Splitting
+mod Viewed

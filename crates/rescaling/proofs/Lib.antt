@@ -1,10 +1,13 @@
-pub mod Apart
+-- Crates above cite lemmas of these.
 pub mod ByNode
-pub mod Forms
-pub mod Kept
 pub mod Levels
-pub mod Numbers
-pub mod Relabelled
 pub mod SameFractions
 pub mod Scaled
 pub mod Sums
+
+-- Crates above do not cite these.
+mod Apart
+mod Forms
+mod Kept
+mod Numbers
+mod Relabelled

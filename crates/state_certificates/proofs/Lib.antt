@@ -1,10 +1,10 @@
-pub mod Alike
-pub mod Separations
-pub mod Shown
-pub mod States
+mod Alike
+mod Classed
+mod Cut
+mod Pairs
+mod Placed
+mod Separations
+mod Shown
+mod States
 mod TermNodes
 mod Writable
-mod Cut
-mod Placed
-mod Pairs
-mod Classed

@@ -44,11 +44,11 @@ pub fn state_formulas(
     stable_labellings_give_stable_lists();
     values_are_of_layers();
     equivalent_states_have_one_truth();
-    let _nodes = c.term.len();
+    c.term.is_term();
     let shapes = system.shapes();
     let edges = system.edges();
     let told = build(alloc, system.iface(), shapes, edges, refined)?;
     // The formulas stand in their order.
-    let _ordered = told.dag().len();
+    told.dag().is_dag();
     Ok(told)
 }

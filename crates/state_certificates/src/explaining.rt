@@ -91,7 +91,7 @@ pub fn explain_pairs(
     cited_formulas_are_old();
     let dag = told.dag();
     // The formulas stand in their order.
-    let _ordered = dag.len();
+    dag.is_dag();
     let found = answers(alloc, told, pairs)?;
     let wanted = wanted(alloc, found.as_slice())?;
     let (small, numbers) = only_cited(alloc, dag, wanted.as_slice())?;

@@ -56,7 +56,7 @@ pub fn separating_formula(
 {
     let dag = told.dag();
     // The formulas stand in their order.
-    let _ordered = dag.len();
+    dag.is_dag();
     match told.separating(i, j) {
         None => Ok(None),
         Some(k) => Ok(Some(cut_out(alloc, dag, k)?)),

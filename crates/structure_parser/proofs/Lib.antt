@@ -1,6 +1,6 @@
-pub mod HeadLaws
-pub mod LineLengths
-pub mod RowLaws
-pub mod StageLaws
-pub mod ReadLaws
-pub mod FileLaws
+mod FileLaws
+mod HeadLaws
+mod LineLengths
+mod ReadLaws
+mod RowLaws
+mod StageLaws

@@ -1,12 +1,14 @@
-pub mod AtChild
-pub mod Leaves
-mod ChildAt
+-- Crates above cite lemmas of these.
 pub mod Arities
+pub mod AtChild
 pub mod Bounded
-mod GoodChildren
-pub mod Expands
 pub mod Chosen
+pub mod Expands
+pub mod Leaves
 pub mod Sound
-mod Walked
 pub mod WalkEnds
+-- Crates above do not cite these.
+mod ChildAt
+mod GoodChildren
 mod Unmerged
+mod Walked

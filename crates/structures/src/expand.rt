@@ -57,7 +57,7 @@ pub(crate) fn expand<'a>(
         targets.old.items
         ++ targets_of term.now (length places.old) (leaves_of term.now (node, value.now))) }
 {
-    let _nodes = term.len();
+    term.is_term();
     for i in 0..child_count(term, node, value) {
         let (q, u) = child(term, node, value, i);
         let target = lead(term, q, u, places)?;

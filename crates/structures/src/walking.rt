@@ -58,7 +58,7 @@ fn follow<'a>(
     ensures few_edges { IfOk result (λ _. length targets.new.items < 2 ^ 26) }
 {
     let _states = values.len();
-    let _nodes = term.len();
+    term.is_term();
     let mut next = 0;
     while next < places.len() {
         let (node, value) = places.get(next);
@@ -105,7 +105,7 @@ pub fn structures_of<'a>(alloc: Global, c: &'a Coalgebra) -> Result<Structures<'
         s.sources.items s.targets.items) }
 {
     let _states = c.names.len();
-    let _nodes = c.term.len();
+    c.term.is_term();
     let found = walked(alloc, &c.term, c.values.as_slice())?;
     Ok(found)
 }

@@ -1,2 +1,2 @@
-pub mod DrawLaws
-pub mod EntryLaws
+mod DrawLaws
+mod EntryLaws

@@ -1,22 +1,25 @@
-pub mod Tests
-pub mod EqualityLaws
-pub mod MapLaws
-pub mod Weights
+-- Crates above cite lemmas of these.
 pub mod Coarser
+pub mod EqualityLaws
 pub mod FirstPlaces
-pub mod StableLaws
-pub mod MovedLemmas
-pub mod OrderLaws
-pub mod Canonical
-pub mod NormalLaws
-pub mod TermFacts
-pub mod Totals
 pub mod InOrder
-pub mod RelabelLaws
+pub mod KeptWeights
+pub mod MapLaws
+pub mod NormalLaws
+pub mod OrderLaws
+pub mod OwnLabels
 pub mod ReadyLaws
+pub mod RelabelLaws
 pub mod RelabelSteps
-pub mod Within
+pub mod StableLaws
+pub mod TermFacts
+pub mod Tests
+pub mod Totals
 pub mod WeightSums
 pub mod WeightTests
-pub mod KeptWeights
-pub mod OwnLabels
+pub mod Weights
+pub mod Within
+
+-- Crates above do not cite these.
+mod Canonical
+mod MovedLemmas

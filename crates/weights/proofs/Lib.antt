@@ -1,4 +1,4 @@
-pub mod Quotients
-pub mod Spelled
-pub mod Reduced
-pub mod Forms
+mod Forms
+mod Quotients
+mod Reduced
+mod Spelled
