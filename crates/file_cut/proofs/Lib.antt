@@ -3,7 +3,6 @@ pub mod CutLaws
 pub mod LineLaws
 pub mod TokenLaws
 pub mod TreeLaws
-
 -- Crates above do not cite these.
 mod FindLaws
 mod ItemLaws

@@ -1,7 +1,6 @@
 -- Crates above cite lemmas of these.
 pub mod NumberLaws
 pub mod ValueLaws
-
 -- Crates above do not cite these.
 mod DigitLaws
 mod LineLaws

@@ -4,7 +4,6 @@ pub mod Levels
 pub mod SameFractions
 pub mod Scaled
 pub mod Sums
-
 -- Crates above do not cite these.
 mod Apart
 mod Forms

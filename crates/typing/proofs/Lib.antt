@@ -19,7 +19,6 @@ pub mod WeightSums
 pub mod WeightTests
 pub mod Weights
 pub mod Within
-
 -- Crates above do not cite these.
 mod Canonical
 mod MovedLemmas
