@@ -9,7 +9,7 @@ pub loop-state-init : goal.loop-state-init
 loop-state-init c =
     ap (λ t. t ++ lines_left c.args.kind c.args.size 0 c.args.seed)
     (c.in_ok-push_functor.ensures
-    ∙ ap (λ t. t ++ (functor_text c.args.kind ++ codes "\n")) c.in_ok-text.ensures.items)
+    ∙ ap (λ t. t ++ (functor_text c.args.kind ++ codes "\n")) c.new-text.ensures.items)
     ∙ ap (λ n. (functor_text c.args.kind ++ codes "\n")
     ++ lines_text 0 (structures c.args.kind c.args.size n c.args.seed)) (none-less c.args.size)
 
