@@ -7,6 +7,7 @@ ghost use Rattle.refiner.specs.declared.moved.Moved.{Moved};
 ghost use Rattle.refiner.specs.Grouping.{IsUnmarked, IsCut, AreCut};
 ghost use Rattle.refiner.specs.Touched.{AreMoved, AreMovedOf, AreRising, HaveOneVoid, IsValueRun};
 
+use crate::comparing::is_same;
 use crate::history::History;
 use crate::moved::{Moved, by_block_and_value};
 use crate::parts::Part;
@@ -36,7 +37,7 @@ fn value_end(moved: &[Moved], from: usize) -> usize
 {
     let first = &moved[from].three;
     for k in from + 1..moved.len() {
-        if !(moved[k].three == *first) {
+        if !is_same(&moved[k].three, first) {
             return k;
         }
     }

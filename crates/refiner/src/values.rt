@@ -10,6 +10,7 @@ ghost use Rattle.refiner.specs.Making.{trit_in};
 ghost use Rattle.refiner.specs.Touched.{AreMoved};
 
 use crate::cells::{Cells, set_cells};
+use crate::comparing::is_same;
 use crate::edges::{group_end, read_labels};
 use crate::moved::Moved;
 use edge_store::EdgeStore;
@@ -147,7 +148,7 @@ pub(crate) fn update_cells<I: Iface, L: Ledger>(
             cells,
             steps,
         )?;
-        if !(three == void) {
+        if !is_same(&three, &void) {
             let block = blocks.block_of(x);
             moved.push(Moved {
                 block,

@@ -166,7 +166,7 @@ loop-from-preserved g c =
       c.group_end-to.ensures.later,
     )) in
     let one : value_at all x ≡ value_at voids x =
-    sym all_x ∙ c.eq.ensures.same.0 c.if-not-eq.false ∙ void_x in
+    sym all_x ∙ c.is_same.ensures.0 c.if-not-is_same.false ∙ void_x in
     record {
       in_range = c.group_end-to.ensures.within;
       few_more = omega (
@@ -236,7 +236,7 @@ loop-from-preserved-in_ok-push g c =
       c.group_end-to.ensures.later,
     )) in
     let ne : value_at all x ≢ value_at voids x = λ e.
-    (let same = c.eq.ensures.same.1 (all_x ∙ e ∙ sym void_x) in cc) in
+    (let same = c.is_same.ensures.1 (all_x ∙ e ∙ sym void_x) in cc) in
     record {
       in_range = c.group_end-to.ensures.within;
       few_more = omega (
