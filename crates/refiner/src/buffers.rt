@@ -13,9 +13,7 @@ pub(crate) struct Buffers<A: Copy> {
     pub(crate) labels: Vec<A>,
     /// The states that leave the untouched members of their blocks.
     pub(crate) moved: Vec<Moved>,
-    /// The members of one of their blocks.
-    pub(crate) members: Vec<u32>,
-    /// The parts of that block.
+    /// The parts of one of these blocks.
     pub(crate) parts: Vec<Part>,
 }
 
@@ -26,7 +24,6 @@ impl<A: Copy> Buffers<A> {
             edges: Vec::new(alloc),
             labels: Vec::new(alloc),
             moved: Vec::new(alloc),
-            members: Vec::new(alloc),
             parts: Vec::new(alloc),
         }
     }

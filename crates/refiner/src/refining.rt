@@ -67,7 +67,7 @@ pub fn refine<I: Iface, L: Ledger>(
 {
     let n = store.states();
     let edges = store.len();
-    let (mut values, weights) = first_values(alloc, iface, shapes, store, steps)?;
+    let (values, weights) = first_values(alloc, iface, shapes, store, steps)?;
     let mut cells = Cells {
         of: edge_sources(alloc, store)?,
         weights,
@@ -81,6 +81,8 @@ pub fn refine<I: Iface, L: Ledger>(
         &mut progress.blocks,
         values.as_slice(),
     )?;
+    // No round reads them.
+    drop(values);
     list_blocks(&progress.blocks, &mut progress.waiting)?;
     let (history, later_labels) = all_rounds(
         alloc,
@@ -88,7 +90,6 @@ pub fn refine<I: Iface, L: Ledger>(
         shapes,
         store,
         &mut progress,
-        &mut values,
         &mut cells,
         steps,
     )?;

@@ -21,7 +21,6 @@ use crate::splitter::{add_waiting, count_scans, find_half, take_out};
 use crate::values::update_cells;
 use edge_store::EdgeStore;
 use iface::Iface;
-use modalities::Three;
 use outside::Steps;
 use std::alloc::{AllocError, Global};
 use std::sync::ledger::Ledger;
@@ -35,7 +34,6 @@ fn one_round<I: Iface, L: Ledger>(
     shapes: &[I::Shape],
     store: &EdgeStore<I::Label>,
     progress: &mut Progress,
-    values: &mut Vec<Three>,
     cells: &mut Cells<I::Weight>,
     buffers: &mut Buffers<I::Label>,
     history: &mut History,
@@ -53,7 +51,6 @@ fn one_round<I: Iface, L: Ledger>(
     requires torn { (y : ℕ) × AreTorn progress.old.blocks progress.old.coarse x y }
     requires agreeing { AreAgreeing (I.agree iface.now) (system_from 0 shapes.now store.now.1)
         (moment_at progress.old) }
-    requires one_value { length values.old.items ≡ store.now.0 }
     requires cells { AreCells (I.toward iface.now) shapes.now store.now.1
         (λ _. block_at progress.old.coarse) cells.old.of.items cells.old.weights.items }
     requires room { length cells.old.weights.items + 2 ^ 26 ≤ 2 ^ 32 }
@@ -74,7 +71,6 @@ fn one_round<I: Iface, L: Ledger>(
     ensures rise { IfOk result (λ r. steps.new ≡ steps.old + r.1) }
     ensures counted { IfOk result (λ r.
         r.1 ≡ many_into progress.old.blocks r.0.splitter store.now.1) }
-    ensures one_value { IfOk result (λ _. length values.new.items ≡ store.now.0) }
     ensures cells { IfOk result (λ _. AreCells (I.toward iface.now) shapes.now store.now.1
         (λ _. block_at progress.new.coarse) cells.new.of.items cells.new.weights.items) }
     ensures few_more { IfOk result (λ r.
@@ -97,7 +93,6 @@ fn one_round<I: Iface, L: Ledger>(
         c,
         buffers.edges.as_slice(),
         &mut buffers.labels,
-        values,
         cells,
         &mut buffers.moved,
         steps,
@@ -108,8 +103,6 @@ fn one_round<I: Iface, L: Ledger>(
         alloc,
         &mut progress.blocks,
         &mut buffers.moved,
-        values.as_slice(),
-        &mut buffers.members,
         &mut buffers.parts,
         history,
     )?;
@@ -138,7 +131,6 @@ pub(crate) fn all_rounds<I: Iface, L: Ledger>(
     shapes: &[I::Shape],
     store: &EdgeStore<I::Label>,
     progress: &mut Progress,
-    values: &mut Vec<Three>,
     cells: &mut Cells<I::Weight>,
     steps: &mut Steps<L>,
 ) -> Result<(History, u64), AllocError>
@@ -151,7 +143,6 @@ pub(crate) fn all_rounds<I: Iface, L: Ledger>(
     requires ready { IsReady store.now.0 0 progress.old }
     requires starts { (start : List Start) × IsStart (I.node iface.now) (I.value iface.now)
         (system_from 0 shapes.now store.now.1) start (moment_at progress.old) }
-    requires one_value { length values.old.items ≡ store.now.0 }
     requires cells { AreCells (I.toward iface.now) shapes.now store.now.1
         (λ _. block_at progress.old.coarse) cells.old.of.items cells.old.weights.items }
     requires few_cells { length cells.old.weights.items ≤ 2 ^ 26 }
@@ -179,7 +170,6 @@ pub(crate) fn all_rounds<I: Iface, L: Ledger>(
             shapes,
             store,
             progress,
-            values,
             cells,
             &mut buffers,
             &mut history,

@@ -1,16 +1,15 @@
 //! Blocks that split by the values of their touched members. The other members are not looked at.
 
-ghost use Rattle.std.specs.Prelude.{◌≡◌, ◌≢◌, ◌≤◌, ◌<◌, ◌+◌, ℕ, true, List, [], length, slice_index_or, All, Any, AllPairs, IfOk};
-ghost use Rattle.std.specs.List.Sorted.{IsNonDecreasingBy};
+ghost use Rattle.std.specs.Prelude.{◌≡◌, ◌≢◌, ◌≤◌, ◌<◌, ◌+◌, ℕ, true, List, [], length, slice_index_or, All, Any, IfOk};
 ghost use Rattle.modalities.specs.declared.three.Three.{Three};
 ghost use Rattle.refinable_partition.specs.Blocks.{block_at, mark_at, states_of, IsSameBlocks};
 ghost use Rattle.refiner.specs.declared.moved.Moved.{Moved};
-ghost use Rattle.refiner.specs.Grouping.{value_at, IsUnmarked, IsCut, AreCut};
-ghost use Rattle.refiner.specs.Touched.{AreMoved, AreMovedOf, HaveOneVoid};
+ghost use Rattle.refiner.specs.Grouping.{IsUnmarked, IsCut, AreCut};
+ghost use Rattle.refiner.specs.Touched.{AreMoved, AreMovedOf, AreRising, HaveOneVoid, IsValueRun};
 
-use crate::grouping::split_by_value;
+use crate::comparing::is_same;
 use crate::history::History;
-use crate::moved::Moved;
+use crate::moved::{Moved, by_block_and_value};
 use crate::parts::Part;
 use modalities::Three;
 use refinable_partition::Partition;
@@ -30,36 +29,58 @@ fn mark_moved(blocks: &mut Partition, moved: &[Moved])
     }
 }
 
-/// Splits a block whose members outside of a list all have the void value. These keep its number.
-/// The last two lists are filled anew: `parts` has the parts.
+/// The end of the run of one value that begins at a place.
+fn value_end(moved: &[Moved], from: usize) -> usize
+    requires place { from < length moved.now }
+    requires rising { AreRising moved.now }
+    ensures { IsValueRun moved.now from result }
+{
+    let first = &moved[from].three;
+    for k in from + 1..moved.len() {
+        if !is_same(&moved[k].three, first) {
+            return k;
+        }
+    }
+    moved.len()
+}
+
+/// Splits a block by the values of its members. The list has those that do not have the void value,
+/// in the order of their values; where there are others, they keep the number of the block. The
+/// last list is filled anew: `parts` has the parts.
 fn split_block(
     alloc: Global,
     blocks: &mut Partition,
     b: u32,
     moved: &[Moved],
-    values: &[Three],
-    members: &mut Vec<u32>,
     parts: &mut Vec<Part>,
 ) -> Result<(), AllocError>
     requires some { 0 < length moved.now }
     requires told { (all : List Three) × (void : Three) ×
-        AreMovedOf values.now all void blocks.old b moved.now }
-    requires one_each { length values.now ≡ states_of blocks.old }
+        AreMovedOf all void blocks.old b moved.now }
+    requires rising { AreRising moved.now }
     requires unmarked { IsUnmarked blocks.old }
     requires live { b < blocks.old.count }
     ensures { IfOk result (λ _. (all : List Three) (void : Three) →
-        AreMovedOf values.now all void blocks.old b moved.now →
+        AreMovedOf all void blocks.old b moved.now →
         IsCut all b blocks.old blocks.new parts.new.items) }
 {
-    blocks.is_laid_out();
-    mark_moved(blocks, moved);
-    if let Some(new) = blocks.split_marked(b) {
-        split_by_value(alloc, blocks, new, values, members, parts)?;
-        let three = moved[0].void.copied(alloc)?;
-        parts.push(Part { block: b, three })?;
-        return Ok(());
+    parts.clear();
+    let mut from = 0;
+    while from < moved.len() {
+        let to = value_end(moved, from);
+        mark_moved(blocks, &moved[from..to]);
+        let three = moved[from].three.copied(alloc)?;
+        if let Some(block) = blocks.split_marked(b) {
+            parts.push(Part { block, three })?;
+        } else {
+            // All that is left of the block has this value.
+            parts.push(Part { block: b, three })?;
+            return Ok(());
+        }
+        from = to;
     }
-    split_by_value(alloc, blocks, b, values, members, parts)?;
+    let three = moved[0].void.copied(alloc)?;
+    parts.push(Part { block: b, three })?;
     Ok(())
 }
 
@@ -88,23 +109,20 @@ pub(crate) fn split_touched(
     alloc: Global,
     blocks: &mut Partition,
     moved: &mut Vec<Moved>,
-    values: &[Three],
-    members: &mut Vec<u32>,
     parts: &mut Vec<Part>,
     history: &mut History,
 ) -> Result<(), AllocError>
     requires told { (all : List Three) × (voids : List Three) ×
-        AreMoved values.now all voids blocks.old moved.old.items × HaveOneVoid voids blocks.old }
-    requires one_each { length values.now ≡ states_of blocks.old }
+        AreMoved all voids blocks.old moved.old.items × HaveOneVoid voids blocks.old }
     requires unmarked { IsUnmarked blocks.old }
     requires begins { history.old.splits ≡ [] }
     ensures cut { IfOk result (λ _. (all voids : List Three) →
-        AreMoved values.now all voids blocks.old moved.old.items → HaveOneVoid voids blocks.old →
+        AreMoved all voids blocks.old moved.old.items → HaveOneVoid voids blocks.old →
         AreCut all blocks.old.count blocks.old blocks.new history.new.splits) }
     ensures rounds { IfOk result (λ _. history.new.rounds ≡ history.old.rounds) }
 {
     blocks.is_laid_out();
-    moved.sort_unstable_by_key(|m| m.block);
+    moved.sort_unstable_by(|m, n| by_block_and_value(m, n));
     let mut from = 0;
     while from < moved.len() {
         let to = block_end(moved.as_slice(), from);
@@ -114,15 +132,7 @@ pub(crate) fn split_touched(
             from = to;
             continue;
         }
-        split_block(
-            alloc,
-            blocks,
-            parent,
-            &moved[from..to],
-            values,
-            members,
-            parts,
-        )?;
+        split_block(alloc, blocks, parent, &moved[from..to], parts)?;
         if 2 <= parts.len() {
             history.add_split(parent, parts)?;
         }

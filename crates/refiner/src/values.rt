@@ -10,6 +10,7 @@ ghost use Rattle.refiner.specs.Making.{trit_in};
 ghost use Rattle.refiner.specs.Touched.{AreMoved};
 
 use crate::cells::{Cells, set_cells};
+use crate::comparing::is_same;
 use crate::edges::{group_end, read_labels};
 use crate::moved::Moved;
 use edge_store::EdgeStore;
@@ -83,7 +84,7 @@ fn update_one<I: Iface, L: Ledger>(
 
 /// Takes the splitter out of the cells of all sources of these edges, which are those into the
 /// splitter in order. `moved` gets the sources whose value is not that of the untouched members of
-/// their block, in place of what it had, and `values` gets their values.
+/// their block, in place of what it had.
 pub(crate) fn update_cells<I: Iface, L: Ledger>(
     alloc: Global,
     iface: &I,
@@ -95,7 +96,6 @@ pub(crate) fn update_cells<I: Iface, L: Ledger>(
     c: u32,
     edges: &[u32],
     labels: &mut Vec<I::Label>,
-    values: &mut Vec<Three>,
     cells: &mut Cells<I::Weight>,
     moved: &mut Vec<Moved>,
     steps: &mut Steps<L>,
@@ -109,19 +109,17 @@ pub(crate) fn update_cells<I: Iface, L: Ledger>(
     requires in_coarse { states_of coarse.now ≡ store.now.0 }
     requires in_range { (t : ℕ) → t < states_of blocks.now →
         block_at coarse.now t < coarse.now.count }
-    requires one_value { length values.old.items ≡ store.now.0 }
     requires cells { AreCells (I.toward iface.now) shapes.now store.now.1
         (λ _. block_at coarse.now) cells.old.of.items cells.old.weights.items }
     requires edges { AreEdgesWithin store.now.1 blocks.now s edges.now }
     requires few { length edges.now < 2 ^ 26 }
     requires room { length cells.old.weights.items + length edges.now ≤ 2 ^ 32 }
     requires steps_fit { steps.old ≤ 2 ^ 61 + 2 ^ 59 }
-    ensures one_value { IfOk result (λ _. length values.new.items ≡ store.now.0) }
     ensures few_more { IfOk result (λ _.
         length cells.new.weights.items ≤ length cells.old.weights.items + length edges.now) }
     ensures cells { IfOk result (λ _. AreCells (I.toward iface.now) shapes.now store.now.1
         (class_after blocks.now coarse.now s) cells.new.of.items cells.new.weights.items) }
-    ensures moved { IfOk result (λ _. AreMoved values.new.items
+    ensures moved { IfOk result (λ _. AreMoved
         (round_values (I.value iface.now) (system_from 0 shapes.now store.now.1)
         (trit_in blocks.now coarse.now s c))
         (round_voids (I.value iface.now) (system_from 0 shapes.now store.now.1)
@@ -150,12 +148,12 @@ pub(crate) fn update_cells<I: Iface, L: Ledger>(
             cells,
             steps,
         )?;
-        if !(three == void) {
-            values[x as usize] = three;
+        if !is_same(&three, &void) {
             let block = blocks.block_of(x);
             moved.push(Moved {
                 block,
                 state: x,
+                three,
                 void,
             })?;
         }

@@ -43,7 +43,6 @@ loop-x-init g c =
       few = omega arith;
       rise = omega arith;
       counted = omega (arith, none);
-      one_value = c.requires.one_value;
       cells = c.requires.cells;
       few_cells = omega (arith, c.requires.few_cells);
     }
@@ -116,9 +115,6 @@ one_round-requires-clause-ready g c =
       scans_small = was.scans_small;
       waiting = c.find_half.ensures.waiting;
     }
-
-pub one_round-requires-clause-one_value : goal.one_round-requires-clause-one_value
-one_round-requires-clause-one_value g c = c.loop-x.invariant.one_value
 
 pub one_round-requires-clause-cells : goal.one_round-requires-clause-cells
 one_round-requires-clause-cells g c = c.loop-x.invariant.cells
@@ -244,7 +240,6 @@ loop-x-preserved g c =
       few = omega (arith, c.in_ok-numbers.ensures.one_more, c.loop-x.invariant.few);
       rise = omega (arith, c.in_ok-numbers.ensures.rise, c.loop-x.invariant.rise);
       counted = omega (arith, next, c.in_ok-numbers.ensures.counted, c.loop-x.invariant.counted);
-      one_value = c.in_ok-numbers.ensures.one_value;
       cells = c.in_ok-numbers.ensures.cells;
       few_cells = omega (arith, c.in_ok-numbers.ensures.few_more, c.loop-x.invariant.few_cells);
     }

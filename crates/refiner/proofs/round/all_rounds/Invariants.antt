@@ -20,7 +20,6 @@ invariant-loop-x g l = record {
   few : l.number ≤ l.progress.coarse.count;
   rise : l.steps ≡ l.initial.steps + l.labels;
   counted : l.labels ≡ scanned l.progress.scans.items l.store.1;
-  one_value : length l.values.items ≡ l.store.0;
   cells : AreCells (g.I.Iface.toward l.iface) l.shapes l.store.1 (λ _. block_at l.progress.coarse)
       l.cells.of.items l.cells.weights.items;
   few_cells : length l.cells.weights.items ≤ 2 ^ 26 + l.labels;

@@ -96,19 +96,13 @@ split_touched-requires-clause-told g c =
     ∙ sym c.block_of-c.ensures.block in
     let hc : k < length numbers =
     omega (arith, ready.one_number, c.block_of-c.ensures.in_range) in
-    let moved : AreMoved c.as_slice-2.result.now all voids p c.update_cells.new.moved.items =
-    subst (λ (vs : List Three). AreMoved vs all voids p c.update_cells.new.moved.items)
-    (sym c.as_slice-2.ensures.value) c.in_ok-update_cells.ensures.moved in
+    let moved : AreMoved all voids p c.update_cells.new.moved.items =
+    c.in_ok-update_cells.ensures.moved in
     let one : HaveOneVoid voids p = one_void (g.I.Iface.node c.args.iface.now)
     (g.I.Iface.kin c.args.iface.now) (g.I.Iface.fits c.args.iface.now) value
     (g.I.Iface.agree c.args.iface.now) (g.met.I.Iface.laws c.args.iface.now) system
     c.requires.system p q numbers ready n_is c.requires.agreeing s k hc within in
     (all, voids, moved, one)
-
-pub split_touched-requires-clause-one_each : goal.split_touched-requires-clause-one_each
-split_touched-requires-clause-one_each g c =
-    ap length c.as_slice-2.ensures.value ∙ c.in_ok-update_cells.ensures.one_value
-    ∙ sym c.requires.ready.states
 
 pub add_waiting-requires : goal.add_waiting-requires
 add_waiting-requires g c =
@@ -132,9 +126,8 @@ add_waiting-requires g c =
     ∙ sym c.block_of-c.ensures.block in
     let hc : k < length numbers =
     omega (arith, ready.one_number, c.block_of-c.ensures.in_range) in
-    let moved : AreMoved c.as_slice-2.result.now all voids p c.update_cells.new.moved.items =
-    subst (λ (vs : List Three). AreMoved vs all voids p c.update_cells.new.moved.items)
-    (sym c.as_slice-2.ensures.value) c.in_ok-update_cells.ensures.moved in
+    let moved : AreMoved all voids p c.update_cells.new.moved.items =
+    c.in_ok-update_cells.ensures.moved in
     let one : HaveOneVoid voids p = one_void (g.I.Iface.node c.args.iface.now)
     (g.I.Iface.kin c.args.iface.now) (g.I.Iface.fits c.args.iface.now) value
     (g.I.Iface.agree c.args.iface.now) (g.met.I.Iface.laws c.args.iface.now) system
@@ -175,9 +168,8 @@ returns-clause-round g c =
     ∙ sym c.block_of-c.ensures.block in
     let hc : k < length numbers =
     omega (arith, ready.one_number, c.block_of-c.ensures.in_range) in
-    let moved : AreMoved c.as_slice-2.result.now all voids p c.update_cells.new.moved.items =
-    subst (λ (vs : List Three). AreMoved vs all voids p c.update_cells.new.moved.items)
-    (sym c.as_slice-2.ensures.value) c.in_ok-update_cells.ensures.moved in
+    let moved : AreMoved all voids p c.update_cells.new.moved.items =
+    c.in_ok-update_cells.ensures.moved in
     let one : HaveOneVoid voids p = one_void (g.I.Iface.node c.args.iface.now)
     (g.I.Iface.kin c.args.iface.now) (g.I.Iface.fits c.args.iface.now) value
     (g.I.Iface.agree c.args.iface.now) (g.met.I.Iface.laws c.args.iface.now) system
@@ -224,9 +216,8 @@ returns-clause-ready g c =
     ∙ sym c.block_of-c.ensures.block in
     let hc : k < length numbers =
     omega (arith, ready.one_number, c.block_of-c.ensures.in_range) in
-    let moved : AreMoved c.as_slice-2.result.now all voids p c.update_cells.new.moved.items =
-    subst (λ (vs : List Three). AreMoved vs all voids p c.update_cells.new.moved.items)
-    (sym c.as_slice-2.ensures.value) c.in_ok-update_cells.ensures.moved in
+    let moved : AreMoved all voids p c.update_cells.new.moved.items =
+    c.in_ok-update_cells.ensures.moved in
     let one : HaveOneVoid voids p = one_void (g.I.Iface.node c.args.iface.now)
     (g.I.Iface.kin c.args.iface.now) (g.I.Iface.fits c.args.iface.now) value
     (g.I.Iface.agree c.args.iface.now) (g.met.I.Iface.laws c.args.iface.now) system
@@ -303,9 +294,6 @@ returns-clause-counted g c =
     let many = as_many c.args.store.now.1 c.args.progress.now.blocks c.block_of-splitter.result
     c.edges_within.new.found.items c.in_ok-edges_within.ensures in
     omega (arith, many)
-
-pub returns-clause-one_value : goal.returns-clause-one_value
-returns-clause-one_value g c = c.in_ok-update_cells.ensures.one_value
 
 pub returns-clause-cells : goal.returns-clause-cells
 returns-clause-cells g c =

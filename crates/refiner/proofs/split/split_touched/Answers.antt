@@ -1,12 +1,15 @@
 use Rattle.std.proofs.Common.{◌≡◌, ◌≢◌, ◌+◌, ◌-◌, ◌<◌, ◌≤◌, ◌∙◌, ℕ, List, length, get_or, take, drop, sym, ap, refl, subst, arith, rules}
 use Rattle.std.proofs.lemmas.List.{length-take-le, length-drop}
-use Rattle.std.proofs.lemmas.List.Sorted.{IsNonDecreasingBy-from_sort_by_key}
+use Rattle.std.specs.Ordering.{is_lt}
+use Rattle.std.proofs.lemmas.Fn.{always_returns_same}
+use Rattle.std.proofs.lemmas.List.Sorted.{ranks_by}
 use Rattle.refinable_partition.specs.Blocks.{block_at, states_of}
 use Rattle.refiner.specs.declared.moved.Moved.{Moved}
 use Rattle.refiner.specs.Recorded.{Split}
 use Rattle.refiner.specs.Grouping.{value_at, AreCut}
-use Rattle.refiner.specs.Touched.{AreMovedOf}
+use Rattle.refiner.specs.Touched.{AreMovedOf, AreRising, moved_cmp}
 use Rattle.refiner.proofs.BlockByBlock.{below_none, moved_sorted, run_told, run_kept, run_pushed, run_single, so_far, beyond, skipped}
+use Rattle.refiner.proofs.MovedOrder.{moved_total, blocks_rise, values_rise}
 use Rattle.refiner.proofs.split.split_touched.Goals as goal
 
 pub loop-from-init : goal.loop-from-init
@@ -15,8 +18,8 @@ loop-from-init c = record {
   rounds = refl;
   cutting = (
     0,
-    rw c.requires.begins (below_none c.args.values.now c.args.blocks.now c.args.moved.now.items
-        c.sort_unstable_by_key.new.self.items c.requires.unmarked),
+    rw c.requires.begins (below_none c.args.blocks.now c.args.moved.now.items
+        c.sort_unstable_by.new.self.items c.requires.unmarked),
   );
 }
 
@@ -24,14 +27,14 @@ pub members-requires : goal.members-requires
 members-requires c =
     let p = c.args.blocks.now in
     let q = c.loop-from.blocks in
-    let values = c.args.values.now in
-    let sorted = c.sort_unstable_by_key.new.self.items in
+    let sorted = c.sort_unstable_by.new.self.items in
     let from = c.loop-from.from in
     let to = c.block_end-to.result in
     let splits = c.loop-from.history.splits in
     let inv = c.loop-from.invariant.cutting in
-    let rises = IsNonDecreasingBy-from_sort_by_key (λ (n : Moved). n.block) sorted
-    c.sort_unstable_by_key.ensures.sorted (λ a r f k. search rules) in
+    let rises = blocks_rise sorted (c.sort_unstable_by.ensures.sorted
+    (λ m n. is_lt (moved_cmp m n)) (ranks_by moved_total (λ (m : Moved). m))
+    (always_returns_same _ _ _ (λ a r f k. search rules))) in
     let m : Moved = c.index.result.now in
     let within : to ≤ length sorted =
     omega (arith, c.block_end-to.ensures.within, ap length c.as_slice.ensures.value) in
@@ -49,8 +52,8 @@ members-requires c =
     c.as_slice.ensures.value (c.block_end-to.ensures.other d
     (omega (arith, h, ap length c.as_slice.ensures.value))) in
     let t = c.requires.told in
-    let told0 = moved_sorted values t.0 t.1 p c.args.moved.now.items sorted
-    c.sort_unstable_by_key.ensures.permutation t.2 in
+    let told0 = moved_sorted t.0 t.1 p c.args.moved.now.items sorted
+    c.sort_unstable_by.ensures.permutation t.2 in
     let cut0 = inv.1.cut t.0 t.1 t.2 t.3 in
     let live : m.block < p.count =
     (let b = told0.blocks_are from m here in
@@ -64,14 +67,14 @@ pub split_block-requires : goal.split_block-requires
 split_block-requires c =
     let p = c.args.blocks.now in
     let q = c.loop-from.blocks in
-    let values = c.args.values.now in
-    let sorted = c.sort_unstable_by_key.new.self.items in
+    let sorted = c.sort_unstable_by.new.self.items in
     let from = c.loop-from.from in
     let to = c.block_end-to.result in
     let splits = c.loop-from.history.splits in
     let inv = c.loop-from.invariant.cutting in
-    let rises = IsNonDecreasingBy-from_sort_by_key (λ (n : Moved). n.block) sorted
-    c.sort_unstable_by_key.ensures.sorted (λ a r f k. search rules) in
+    let rises = blocks_rise sorted (c.sort_unstable_by.ensures.sorted
+    (λ m n. is_lt (moved_cmp m n)) (ranks_by moved_total (λ (m : Moved). m))
+    (always_returns_same _ _ _ (λ a r f k. search rules))) in
     let m : Moved = c.index.result.now in
     let within : to ≤ length sorted =
     omega (arith, c.block_end-to.ensures.within, ap length c.as_slice.ensures.value) in
@@ -89,8 +92,8 @@ split_block-requires c =
     c.as_slice.ensures.value (c.block_end-to.ensures.other d
     (omega (arith, h, ap length c.as_slice.ensures.value))) in
     let t = c.requires.told in
-    let told0 = moved_sorted values t.0 t.1 p c.args.moved.now.items sorted
-    c.sort_unstable_by_key.ensures.permutation t.2 in
+    let told0 = moved_sorted t.0 t.1 p c.args.moved.now.items sorted
+    c.sort_unstable_by.ensures.permutation t.2 in
     let cut0 = inv.1.cut t.0 t.1 t.2 t.3 in
     let live : m.block < p.count =
     (let b = told0.blocks_are from m here in
@@ -112,13 +115,17 @@ split_block-requires c =
       told = (
         t.0,
         value_at t.1 m.state,
-        subst (λ (ys : List Moved). AreMovedOf values t.0 (value_at t.1 m.state) q m.block
+        subst (λ (ys : List Moved). AreMovedOf t.0 (value_at t.1 m.state) q m.block
             (take (to - from) (drop from ys))) (sym c.deref.ensures.value)
-            (run_told values t.0 t.1 p sorted told0 t.3 rises q splits inv.0
+            (run_told t.0 t.1 p sorted told0 t.3 rises q splits inv.0
             from cut0 inv.1.before to m c.block_end-to.ensures.later within
             c.index.ensures low same other live),
       );
-      one_each = c.requires.one_each ∙ sym cut0.states;
+      rising = subst (λ (ys : List Moved). AreRising (take (to - from) (drop from ys)))
+          (sym c.deref.ensures.value)
+          (values_rise sorted (c.sort_unstable_by.ensures.sorted (λ m n. is_lt (moved_cmp m n))
+          (ranks_by moved_total (λ (m : Moved). m))
+          (always_returns_same _ _ _ (λ a r f k. search rules))) from to within same);
       unmarked = cut0.unmarked;
       live = omega (arith, live, cut0.grown);
     }
@@ -127,14 +134,14 @@ pub loop-from-preserved-then-members-lt2 : goal.loop-from-preserved-then-members
 loop-from-preserved-then-members-lt2 c =
     let p = c.args.blocks.now in
     let q = c.loop-from.blocks in
-    let values = c.args.values.now in
-    let sorted = c.sort_unstable_by_key.new.self.items in
+    let sorted = c.sort_unstable_by.new.self.items in
     let from = c.loop-from.from in
     let to = c.block_end-to.result in
     let splits = c.loop-from.history.splits in
     let inv = c.loop-from.invariant.cutting in
-    let rises = IsNonDecreasingBy-from_sort_by_key (λ (n : Moved). n.block) sorted
-    c.sort_unstable_by_key.ensures.sorted (λ a r f k. search rules) in
+    let rises = blocks_rise sorted (c.sort_unstable_by.ensures.sorted
+    (λ m n. is_lt (moved_cmp m n)) (ranks_by moved_total (λ (m : Moved). m))
+    (always_returns_same _ _ _ (λ a r f k. search rules))) in
     let m : Moved = c.index.result.now in
     let within : to ≤ length sorted =
     omega (arith, c.block_end-to.ensures.within, ap length c.as_slice.ensures.value) in
@@ -152,8 +159,8 @@ loop-from-preserved-then-members-lt2 c =
     c.as_slice.ensures.value (c.block_end-to.ensures.other d
     (omega (arith, h, ap length c.as_slice.ensures.value))) in
     let t = c.requires.told in
-    let told0 = moved_sorted values t.0 t.1 p c.args.moved.now.items sorted
-    c.sort_unstable_by_key.ensures.permutation t.2 in
+    let told0 = moved_sorted t.0 t.1 p c.args.moved.now.items sorted
+    c.sort_unstable_by.ensures.permutation t.2 in
     let cut0 = inv.1.cut t.0 t.1 t.2 t.3 in
     let live : m.block < p.count =
     (let b = told0.blocks_are from m here in
@@ -167,18 +174,18 @@ loop-from-preserved-then-members-lt2 c =
       cutting = (
         m.block + 1,
         record {
-          before = so_far values t.0 t.1 p sorted told0 t.3 rises q splits inv.0
+          before = so_far t.0 t.1 p sorted told0 t.3 rises q splits inv.0
               from cut0 inv.1.before to m c.block_end-to.ensures.later within
               c.index.ensures low same other;
-          after = beyond values t.0 t.1 p sorted told0 t.3 rises q splits inv.0
+          after = beyond t.0 t.1 p sorted told0 t.3 rises q splits inv.0
               from cut0 inv.1.before to m c.block_end-to.ensures.later within
               c.index.ensures low same other;
           small = omega (arith, live);
           cut = λ all voids told one. (
-              let told1 = moved_sorted values all voids p c.args.moved.now.items sorted
-              c.sort_unstable_by_key.ensures.permutation told in
+              let told1 = moved_sorted all voids p c.args.moved.now.items sorted
+              c.sort_unstable_by.ensures.permutation told in
               let cut1 = inv.1.cut all voids told one in
-              run_single values all voids p sorted told1 one rises q splits inv.0
+              run_single all voids p sorted told1 one rises q splits inv.0
               from cut1 inv.1.before to m c.block_end-to.ensures.later within
               c.index.ensures low same other c.members.result.now c.members.ensures.members
               (omega arith));
@@ -190,14 +197,14 @@ pub loop-from-preserved : goal.loop-from-preserved
 loop-from-preserved c =
     let p = c.args.blocks.now in
     let q = c.loop-from.blocks in
-    let values = c.args.values.now in
-    let sorted = c.sort_unstable_by_key.new.self.items in
+    let sorted = c.sort_unstable_by.new.self.items in
     let from = c.loop-from.from in
     let to = c.block_end-to.result in
     let splits = c.loop-from.history.splits in
     let inv = c.loop-from.invariant.cutting in
-    let rises = IsNonDecreasingBy-from_sort_by_key (λ (n : Moved). n.block) sorted
-    c.sort_unstable_by_key.ensures.sorted (λ a r f k. search rules) in
+    let rises = blocks_rise sorted (c.sort_unstable_by.ensures.sorted
+    (λ m n. is_lt (moved_cmp m n)) (ranks_by moved_total (λ (m : Moved). m))
+    (always_returns_same _ _ _ (λ a r f k. search rules))) in
     let m : Moved = c.index.result.now in
     let within : to ≤ length sorted =
     omega (arith, c.block_end-to.ensures.within, ap length c.as_slice.ensures.value) in
@@ -215,8 +222,8 @@ loop-from-preserved c =
     c.as_slice.ensures.value (c.block_end-to.ensures.other d
     (omega (arith, h, ap length c.as_slice.ensures.value))) in
     let t = c.requires.told in
-    let told0 = moved_sorted values t.0 t.1 p c.args.moved.now.items sorted
-    c.sort_unstable_by_key.ensures.permutation t.2 in
+    let told0 = moved_sorted t.0 t.1 p c.args.moved.now.items sorted
+    c.sort_unstable_by.ensures.permutation t.2 in
     let cut0 = inv.1.cut t.0 t.1 t.2 t.3 in
     let live : m.block < p.count =
     (let b = told0.blocks_are from m here in
@@ -230,25 +237,25 @@ loop-from-preserved c =
       cutting = (
         m.block + 1,
         record {
-          before = so_far values t.0 t.1 p sorted told0 t.3 rises q splits inv.0
+          before = so_far t.0 t.1 p sorted told0 t.3 rises q splits inv.0
               from cut0 inv.1.before to m c.block_end-to.ensures.later within
               c.index.ensures low same other;
-          after = beyond values t.0 t.1 p sorted told0 t.3 rises q splits inv.0
+          after = beyond t.0 t.1 p sorted told0 t.3 rises q splits inv.0
               from cut0 inv.1.before to m c.block_end-to.ensures.later within
               c.index.ensures low same other;
           small = omega (arith, live);
           cut = λ all voids told one. (
-              let told1 = moved_sorted values all voids p c.args.moved.now.items sorted
-              c.sort_unstable_by_key.ensures.permutation told in
+              let told1 = moved_sorted all voids p c.args.moved.now.items sorted
+              c.sort_unstable_by.ensures.permutation told in
               let cut1 = inv.1.cut all voids told one in
-              run_kept values all voids p sorted told1 one rises q splits inv.0
+              run_kept all voids p sorted told1 one rises q splits inv.0
               from cut1 inv.1.before to m c.block_end-to.ensures.later within
               c.index.ensures low same other live
               c.split_block.new.blocks c.split_block.new.parts.items
               (c.in_ok-split_block.ensures all (value_at voids m.state)
-              (subst (λ (ys : List Moved). AreMovedOf values all (value_at voids m.state) q m.block
+              (subst (λ (ys : List Moved). AreMovedOf all (value_at voids m.state) q m.block
               (take (to - from) (drop from ys))) (sym c.deref.ensures.value)
-              (run_told values all voids p sorted told1 one rises q splits inv.0
+              (run_told all voids p sorted told1 one rises q splits inv.0
               from cut1 inv.1.before to m c.block_end-to.ensures.later within
               c.index.ensures low same other live)))
               (omega arith));
@@ -260,14 +267,14 @@ pub loop-from-preserved-in_ok-add_split : goal.loop-from-preserved-in_ok-add_spl
 loop-from-preserved-in_ok-add_split c =
     let p = c.args.blocks.now in
     let q = c.loop-from.blocks in
-    let values = c.args.values.now in
-    let sorted = c.sort_unstable_by_key.new.self.items in
+    let sorted = c.sort_unstable_by.new.self.items in
     let from = c.loop-from.from in
     let to = c.block_end-to.result in
     let splits = c.loop-from.history.splits in
     let inv = c.loop-from.invariant.cutting in
-    let rises = IsNonDecreasingBy-from_sort_by_key (λ (n : Moved). n.block) sorted
-    c.sort_unstable_by_key.ensures.sorted (λ a r f k. search rules) in
+    let rises = blocks_rise sorted (c.sort_unstable_by.ensures.sorted
+    (λ m n. is_lt (moved_cmp m n)) (ranks_by moved_total (λ (m : Moved). m))
+    (always_returns_same _ _ _ (λ a r f k. search rules))) in
     let m : Moved = c.index.result.now in
     let within : to ≤ length sorted =
     omega (arith, c.block_end-to.ensures.within, ap length c.as_slice.ensures.value) in
@@ -285,8 +292,8 @@ loop-from-preserved-in_ok-add_split c =
     c.as_slice.ensures.value (c.block_end-to.ensures.other d
     (omega (arith, h, ap length c.as_slice.ensures.value))) in
     let t = c.requires.told in
-    let told0 = moved_sorted values t.0 t.1 p c.args.moved.now.items sorted
-    c.sort_unstable_by_key.ensures.permutation t.2 in
+    let told0 = moved_sorted t.0 t.1 p c.args.moved.now.items sorted
+    c.sort_unstable_by.ensures.permutation t.2 in
     let cut0 = inv.1.cut t.0 t.1 t.2 t.3 in
     let live : m.block < p.count =
     (let b = told0.blocks_are from m here in
@@ -301,27 +308,27 @@ loop-from-preserved-in_ok-add_split c =
       cutting = (
         m.block + 1,
         record {
-          before = so_far values t.0 t.1 p sorted told0 t.3 rises q splits inv.0
+          before = so_far t.0 t.1 p sorted told0 t.3 rises q splits inv.0
               from cut0 inv.1.before to m c.block_end-to.ensures.later within
               c.index.ensures low same other;
-          after = beyond values t.0 t.1 p sorted told0 t.3 rises q splits inv.0
+          after = beyond t.0 t.1 p sorted told0 t.3 rises q splits inv.0
               from cut0 inv.1.before to m c.block_end-to.ensures.later within
               c.index.ensures low same other;
           small = omega (arith, live);
           cut = λ all voids told one. (
-              let told1 = moved_sorted values all voids p c.args.moved.now.items sorted
-              c.sort_unstable_by_key.ensures.permutation told in
+              let told1 = moved_sorted all voids p c.args.moved.now.items sorted
+              c.sort_unstable_by.ensures.permutation told in
               let cut1 = inv.1.cut all voids told one in
               subst (λ (out : List Split). AreCut all (m.block + 1) p c.split_block.new.blocks out)
               (sym c.in_ok-add_split.ensures.splits)
-              (run_pushed values all voids p sorted told1 one rises q splits inv.0
+              (run_pushed all voids p sorted told1 one rises q splits inv.0
               from cut1 inv.1.before to m c.block_end-to.ensures.later within
               c.index.ensures low same other live
               c.split_block.new.blocks s refl
               (c.in_ok-split_block.ensures all (value_at voids m.state)
-              (subst (λ (ys : List Moved). AreMovedOf values all (value_at voids m.state) q m.block
+              (subst (λ (ys : List Moved). AreMovedOf all (value_at voids m.state) q m.block
               (take (to - from) (drop from ys))) (sym c.deref.ensures.value)
-              (run_told values all voids p sorted told1 one rises q splits inv.0
+              (run_told all voids p sorted told1 one rises q splits inv.0
               from cut1 inv.1.before to m c.block_end-to.ensures.later within
               c.index.ensures low same other live)))
               (omega arith)));
@@ -332,14 +339,15 @@ loop-from-preserved-in_ok-add_split c =
 pub returns-clause-cut : goal.returns-clause-cut
 returns-clause-cut c = λ all voids told one.
     let p = c.args.blocks.now in
-    let sorted = c.sort_unstable_by_key.new.self.items in
+    let sorted = c.sort_unstable_by.new.self.items in
     let from = c.loop-from.from in
     let inv = c.loop-from.invariant.cutting in
-    let rises = IsNonDecreasingBy-from_sort_by_key (λ (n : Moved). n.block) sorted
-    c.sort_unstable_by_key.ensures.sorted (λ a r f k. search rules) in
+    let rises = blocks_rise sorted (c.sort_unstable_by.ensures.sorted
+    (λ m n. is_lt (moved_cmp m n)) (ranks_by moved_total (λ (m : Moved). m))
+    (always_returns_same _ _ _ (λ a r f k. search rules))) in
     let all_seen : length sorted ≤ from = omega arith in
-    skipped c.args.values.now all voids p sorted
-    (moved_sorted c.args.values.now all voids p c.args.moved.now.items sorted
-    c.sort_unstable_by_key.ensures.permutation told) one rises c.loop-from.blocks
+    skipped all voids p sorted
+    (moved_sorted all voids p c.args.moved.now.items sorted
+    c.sort_unstable_by.ensures.permutation told) one rises c.loop-from.blocks
     c.loop-from.history.splits inv.0 from (inv.1.cut all voids told one) inv.1.before p.count
     inv.1.small (λ i d h l. absurd (omega (arith, all_seen, h, l)))

@@ -6,9 +6,8 @@ abbrev pub invariant-loop-from : goal.invariant-loop-from
 invariant-loop-from l = record {
   rounds : l.history.rounds ≡ l.initial.history.rounds;
   in_range : l.from ≤ length l.moved.items;
-  cutting : (upto : ℕ) × AreCutBelow l.values l.initial.blocks l.blocks l.fn.moved.items
-      l.moved.items
-      l.from upto l.history.splits;
+  cutting : (upto : ℕ) × AreCutBelow l.initial.blocks l.blocks l.fn.moved.items
+      l.moved.items l.from upto l.history.splits;
 }
 
 abbrev pub decreases-loop-from : goal.decreases-loop-from

@@ -1,5 +1,5 @@
 use Rattle.std.proofs.Common.{◌≡◌, ◌≢◌, ◌+◌, ◌-◌, ◌<◌, ◌∙◌, ℕ, List, length, map, take, drop, sym, refl, arith}
-use Rattle.std.proofs.lemmas.List.{length-take-le, length-drop, length-set}
+use Rattle.std.proofs.lemmas.List.{length-take-le, length-drop}
 use Rattle.modalities.specs.declared.three.Three.{Three}
 use Rattle.iface.specs.Trits.{without_splitter}
 use Rattle.refinable_partition.specs.Blocks.{block_at, states_of}
@@ -32,14 +32,12 @@ loop-from-init g c =
     let rises = sources_rise E c.is_stored.ensures.ascending in
     record {
       in_range = omega arith;
-      one_value = c.requires.one_value;
       few_more = omega arith;
       rise = omega arith;
       updating = (
         0,
         rw c.clear.ensures.items (updated_none toward shapes E p q s edges c.requires.edges all voids untouched rises
-            c.args.cells.now.of.items c.args.cells.now.weights.items c.args.values.now.items
-            c.requires.cells),
+            c.args.cells.now.of.items c.args.cells.now.weights.items c.requires.cells),
       );
     }
 
@@ -65,7 +63,7 @@ update_one-requires-clause-cells g c =
     let inv = c.loop-from.invariant.updating in
     cells_here toward shapes E p q s edges c.requires.edges all voids untouched rises
     c.loop-from.from inv.0 c.loop-from.cells.of.items
-    c.loop-from.cells.weights.items c.loop-from.values.items c.loop-from.moved.items inv.1
+    c.loop-from.cells.weights.items c.loop-from.moved.items inv.1
     c.group_end-to.result c.group_end-to.ensures.later
     c.group_end-to.ensures.within c.source-x.result (sym c.source-x.ensures.source)
     c.group_end-to.ensures.alike c.group_end-to.ensures.other
@@ -92,7 +90,7 @@ update_one-requires-clause-group g c =
     let inv = c.loop-from.invariant.updating in
     group_is toward shapes E p q s edges c.requires.edges all voids untouched rises
     c.loop-from.from inv.0 c.loop-from.cells.of.items
-    c.loop-from.cells.weights.items c.loop-from.values.items c.loop-from.moved.items inv.1
+    c.loop-from.cells.weights.items c.loop-from.moved.items inv.1
     c.group_end-to.result c.group_end-to.ensures.later
     c.group_end-to.ensures.within c.source-x.result (sym c.source-x.ensures.source)
     c.group_end-to.ensures.alike c.group_end-to.ensures.other
@@ -168,10 +166,9 @@ loop-from-preserved g c =
       c.group_end-to.ensures.later,
     )) in
     let one : value_at all x ≡ value_at voids x =
-    sym all_x ∙ c.eq.ensures.same.0 c.if-not-eq.false ∙ void_x in
+    sym all_x ∙ c.is_same.ensures.0 c.if-not-is_same.false ∙ void_x in
     record {
       in_range = c.group_end-to.ensures.within;
-      one_value = c.loop-from.invariant.one_value;
       few_more = omega (
         arith,
         c.in_ok-three.ensures.one_more,
@@ -189,7 +186,7 @@ loop-from-preserved g c =
         x + 1,
         stays toward shapes E p q s edges c.requires.edges all voids untouched rises
             c.loop-from.from inv.0 c.loop-from.cells.of.items
-            c.loop-from.cells.weights.items c.loop-from.values.items c.loop-from.moved.items inv.1
+            c.loop-from.cells.weights.items c.loop-from.moved.items inv.1
             c.group_end-to.result c.group_end-to.ensures.later
             c.group_end-to.ensures.within c.source-x.result (sym c.source-x.ensures.source)
             c.group_end-to.ensures.alike c.group_end-to.ensures.other
@@ -239,11 +236,9 @@ loop-from-preserved-in_ok-push g c =
       c.group_end-to.ensures.later,
     )) in
     let ne : value_at all x ≢ value_at voids x = λ e.
-    (let same = c.eq.ensures.same.1 (all_x ∙ e ∙ sym void_x) in cc) in
+    (let same = c.is_same.ensures.1 (all_x ∙ e ∙ sym void_x) in cc) in
     record {
       in_range = c.group_end-to.ensures.within;
-      one_value = length-set c.loop-from.values.items x c.in_ok-three.three
-          ∙ c.loop-from.invariant.one_value;
       few_more = omega (
         arith,
         c.in_ok-three.ensures.one_more,
@@ -261,17 +256,20 @@ loop-from-preserved-in_ok-push g c =
         x + 1,
         rw c.in_ok-push.ensures.items (leaves toward shapes E p q s edges c.requires.edges all voids untouched rises
             c.loop-from.from inv.0 c.loop-from.cells.of.items
-            c.loop-from.cells.weights.items c.loop-from.values.items c.loop-from.moved.items inv.1
+            c.loop-from.cells.weights.items c.loop-from.moved.items inv.1
             c.group_end-to.result c.group_end-to.ensures.later
             c.group_end-to.ensures.within c.source-x.result (sym c.source-x.ensures.source)
             c.group_end-to.ensures.alike c.group_end-to.ensures.other
             c.update_one.new.cells.of.items c.update_one.new.cells.weights.items
             c.in_ok-three.ensures.cells
-            (record { block = c.block_of-block.result; state = x; void = c.in_ok-three.void })
-            c.in_ok-three.three refl
-            (omega (arith, c.source-x.ensures.in_range, c.requires.in_blocks))
-            (omega (arith, c.source-x.ensures.in_range, c.loop-from.invariant.one_value))
-            c.block_of-block.ensures.block void_x all_x ne),
+            (record {
+              block = c.block_of-block.result;
+              state = x;
+              three = c.in_ok-three.three;
+              void = c.in_ok-three.void;
+            })
+            refl (omega (arith, c.source-x.ensures.in_range, c.requires.in_blocks))
+            c.block_of-block.ensures.block all_x void_x ne),
       );
     }
 
@@ -301,7 +299,7 @@ returns-clause-cells g c =
     let inv = c.loop-from.invariant.updating in
     cells_all toward shapes E p q s edges c.requires.edges all voids untouched rises
     c.loop-from.from inv.0 c.loop-from.cells.of.items
-    c.loop-from.cells.weights.items c.loop-from.values.items c.loop-from.moved.items inv.1 (omega arith)
+    c.loop-from.cells.weights.items c.loop-from.moved.items inv.1 (omega arith)
 
 pub returns-clause-moved : goal.returns-clause-moved
 returns-clause-moved g c =
@@ -325,4 +323,4 @@ returns-clause-moved g c =
     let inv = c.loop-from.invariant.updating in
     moved_all toward shapes E p q s edges c.requires.edges all voids untouched rises
     c.loop-from.from inv.0 c.loop-from.cells.of.items
-    c.loop-from.cells.weights.items c.loop-from.values.items c.loop-from.moved.items inv.1 (omega arith)
+    c.loop-from.cells.weights.items c.loop-from.moved.items inv.1 (omega arith)

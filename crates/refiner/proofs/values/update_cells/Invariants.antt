@@ -8,7 +8,6 @@ use Rattle.refiner.proofs.values.update_cells.Given as goal
 abbrev pub invariant-loop-from : goal.invariant-loop-from
 invariant-loop-from g l = record {
   in_range : l.from ≤ length l.edges;
-  one_value : length l.values.items ≡ l.store.0;
   few_more : length l.cells.weights.items ≤ length l.initial.cells.weights.items + l.from;
   rise : l.steps ≡ l.initial.steps + l.from;
   updating : (bound : ℕ) × AreUpdatedBelow (g.I.Iface.toward l.iface) l.shapes l.store.1 l.blocks
@@ -17,7 +16,7 @@ invariant-loop-from g l = record {
       (trit_in l.blocks l.coarse l.s l.c))
       (round_voids (g.I.Iface.value l.iface) (system_from 0 l.shapes l.store.1)
       (trit_in l.blocks l.coarse l.s l.c))
-      l.from bound l.cells.of.items l.cells.weights.items l.values.items l.moved.items;
+      l.from bound l.cells.of.items l.cells.weights.items l.moved.items;
 }
 
 abbrev pub decreases-loop-from : goal.decreases-loop-from
