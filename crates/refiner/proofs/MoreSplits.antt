@@ -62,7 +62,8 @@ module _ (values : List Three) (b : ℕ) (p q q2 : Blocks) (splits : List Split)
         elim (cases_eq any.1.block b) [
           | inl keeps ↦ inl (any.4.0 ∙ keeps ∙ sym here)
           | inr other ↦
-              (let f = all_any (λ (t : Part). t.block ≢ b → (q.count ≤ t.block) × (t.block < q2.count))
+              (let f = all_any (λ (t : Part). t.block ≢ b
+              → (q.count ≤ t.block) × (t.block < q2.count))
               (WentTo values q2 x) parts cut.others_new any other in
               inr (omega (arith, f.0, so_far.grown, any.4.0), omega (arith, f.1, any.4.0)))
         ])

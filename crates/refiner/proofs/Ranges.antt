@@ -64,7 +64,9 @@ rounds_kept splits added parts more rounds of_parts of_splits =
     (λ row h. ap (round_with row.numbers)
     (ap (map (split_of (parts ++ more))) (range_kept row.from row.to splits added h)
     ∙ splits_kept parts more (slice_range splits row.from row.to)
-    (All-take (λ (s : SplitRow). LiesWithin (length parts) s.from s.to) (row.to - row.from) (drop row.from splits) (All-drop (λ (s : SplitRow). LiesWithin (length parts) s.from s.to) row.from splits
+    (All-take (λ (s : SplitRow). LiesWithin (length parts) s.from s.to) (row.to - row.from)
+    (drop row.from splits) (All-drop (λ (s : SplitRow). LiesWithin (length parts) s.from s.to)
+    row.from splits
     of_parts))))
     rounds of_splits
 
@@ -78,7 +80,9 @@ splits_added ended splits parts new row within of_parts begins ends =
     rw (
       drop-append-le ended splits (row ∷ []) within,
       map-append (split_of (parts ++ new)) (drop ended splits) (row ∷ []),
-      splits_kept parts new (drop ended splits) (All-drop (λ (s : SplitRow). LiesWithin (length parts) s.from s.to) ended splits of_parts),
+      splits_kept parts new (drop ended splits)
+          (All-drop (λ (s : SplitRow). LiesWithin (length parts) s.from s.to) ended splits
+          of_parts),
       range_added row.from row.to parts new begins ends,
     ) refl
 

@@ -27,6 +27,7 @@ returns-clause-every g c = λ e he b.
       c.is_stored.ensures.targets_in e 0
           (omega (arith, he, length-map (λ (a : Edge _). a.target) c.args.store.now.1)),
     ) in
-    let found = c.members-members.ensures.members.every t (omega (arith, ht, c.requires.states)) b in
+    let found = c.members-members.ensures.members.every t (omega (arith, ht, c.requires.states))
+    b in
     c.loop-y.invariant.every found.0 e (omega (arith, found.1, c.loop-y-test.false)) he
     (sym (get_or_default c.members-members.result.now found.0 0 t found.1 ∙ found.2))

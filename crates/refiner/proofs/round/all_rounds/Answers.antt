@@ -18,7 +18,8 @@ pub loop-x-init : goal.loop-x-init
 loop-x-init g c =
     let E = c.args.store.now.1 in
     let n = length-system_from 0 c.args.shapes.now E in
-    let zero_at : (y : ℕ) → y < c.args.store.now.0 → get_or c.args.progress.now.scans.items y 0 ≤ 0 =
+    let zero_at : (y : ℕ) → y < c.args.store.now.0 → get_or c.args.progress.now.scans.items y 0
+    ≤ 0 =
     λ y hy. c.requires.ready.scans_small y 0 (omega (arith, hy, c.requires.ready.one_scan)) in
     let none : scanned c.args.progress.now.scans.items E ≤ length E * 0 =
     scanned_low E c.args.progress.now.scans.items 0 (λ j hj. zero_at (target_at E j)
@@ -204,16 +205,19 @@ loop-x-preserved g c =
     let after = c.one_round.new.progress in
     let round : IsRound (g.I.Iface.node c.args.iface.now) (g.I.Iface.value c.args.iface.now)
     system (length c.loop-x.history.rounds)
-    (moment_at p) (moment_at after) (round_with c.in_ok-numbers.numbers c.one_round.new.history.splits) =
+    (moment_at p) (moment_at after) (round_with c.in_ok-numbers.numbers
+    c.one_round.new.history.splits) =
     subst (λ k. IsRound (g.I.Iface.node c.args.iface.now) (g.I.Iface.value c.args.iface.now)
-    system k (moment_at p) (moment_at after) (round_with c.in_ok-numbers.numbers c.one_round.new.history.splits))
+    system k (moment_at p) (moment_at after) (round_with c.in_ok-numbers.numbers
+    c.one_round.new.history.splits))
     c.loop-x.invariant.number_is c.in_ok-numbers.ensures.round in
     let half : 2 * size_of (moment_at p).blocks c.in_ok-numbers.numbers.splitter ≤ size_of
     (moment_at p).coarse c.in_ok-numbers.numbers.coarse =
     half_made p.blocks p.coarse p.numbers.items c.in-Some.x c.in_ok-numbers.numbers.splitter
     c.in_ok-numbers.numbers.coarse
     c.in-Some.ensures.half.1 c.in_ok-numbers.ensures.splitter c.in_ok-numbers.ensures.left in
-    let next = scanned_next E p.blocks c.in_ok-numbers.numbers.splitter p.scans.items after.scans.items
+    let next = scanned_next E p.blocks c.in_ok-numbers.numbers.splitter p.scans.items
+    after.scans.items
     (λ j hj. c.in_ok-numbers.ensures.scans (target_at E j)
     (let t = target_low E c.args.store.now.0 j c.is_stored.ensures.targets_in hj in
     omega (arith, t))) in
@@ -223,7 +227,8 @@ loop-x-preserved g c =
         rw (c.in_ok-end_round.ensures.rounds, c.in_ok-numbers.ensures.rounds)
             (leads_on (g.I.Iface.node c.args.iface.now) (g.I.Iface.value c.args.iface.now)
             system (moment_at c.args.progress.now) h.0
-            c.loop-x.history.rounds (moment_at p) (moment_at after) (round_with c.in_ok-numbers.numbers c.one_round.new.history.splits) p.scans.items
+            c.loop-x.history.rounds (moment_at p) (moment_at after)
+            (round_with c.in_ok-numbers.numbers c.one_round.new.history.splits) p.scans.items
             after.scans.items h.1 round half
             (λ y hy. c.in_ok-numbers.ensures.scans y (omega (arith, hy, n, c.requires.one_shape)))),
       );
@@ -234,7 +239,8 @@ loop-x-preserved g c =
         ap length c.in_ok-end_round.ensures.rounds,
         ap length c.in_ok-numbers.ensures.rounds,
         length_push
-            c.one_round.new.history.rounds (round_with c.in_ok-numbers.numbers c.one_round.new.history.splits),
+            c.one_round.new.history.rounds (round_with c.in_ok-numbers.numbers
+            c.one_round.new.history.splits),
         c.loop-x.invariant.number_is,
       );
       few = omega (arith, c.in_ok-numbers.ensures.one_more, c.loop-x.invariant.few);

@@ -236,7 +236,8 @@ returns-clause-ready g c =
         states = coarse;
         in_blocks = λ x hx.
             in_blocks_after all p c.split_touched.new.blocks
-            c.split_touched.new.history.splits cut ready.in_blocks x (omega (arith, hx, cut.states));
+            c.split_touched.new.history.splits cut ready.in_blocks x
+            (omega (arith, hx, cut.states));
         in_coarse = λ x hx.
             omega (
               arith,

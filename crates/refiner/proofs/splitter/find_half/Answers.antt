@@ -48,6 +48,7 @@ returns c =
     ] in
     record {
       waiting = c.loop-x.invariant;
-      half = single_made c.args.blocks.now c.args.coarse.now c.loop-x.waiting.items c.requires.states
+      half = single_made c.args.blocks.now c.args.coarse.now c.loop-x.waiting.items
+          c.requires.states
           c.requires.nested c.loop-x.invariant (ap length (sym c.deref.ensures.value) ∙ empty);
     }

@@ -76,7 +76,8 @@ loop-x-preserved g c =
           c.push.new.self.items c.loop-x.x c.in_ok-weight.three _ c.loop-x.invariant.len
           c.in_ok-push.ensures.items is value c.loop-x.invariant.each;
       whole = whole_more (g.I.Iface.toward c.args.iface.now) c.args.shapes.now c.args.store.now.1
-          c.loop-x.x c.loop-x.weights.items c.push-in-loop-x.new.self.items c.in_ok-weight.weight c.index-shapes-x.result
+          c.loop-x.x c.loop-x.weights.items c.push-in-loop-x.new.self.items c.in_ok-weight.weight
+          c.index-shapes-x.result
           c.in_ok-push-2.ensures.items at
           (c.in_ok-weight.ensures.weight
           ∙ ap (λ ls. g.I.Iface.toward c.args.iface.now c.index-shapes-x.result ls

@@ -36,7 +36,8 @@ loop-from-init g c =
       rise = omega arith;
       updating = (
         0,
-        rw c.clear.ensures.items (updated_none toward shapes E p q s edges c.requires.edges all voids untouched rises
+        rw c.clear.ensures.items (updated_none toward shapes E p q s edges c.requires.edges all
+            voids untouched rises
             c.args.cells.now.of.items c.args.cells.now.weights.items c.requires.cells),
       );
     }
@@ -156,7 +157,8 @@ loop-from-preserved g c =
     c.in_ok-three.ensures.void here.0 here.1
     ∙ sym (value_in (λ a. value a.shape a.labels (without_splitter (map trit a.targets))) shapes E x
     here.0 here.1) in
-    let many : length (take (c.group_end-to.result - c.loop-from.from) (drop c.loop-from.from edges))
+    let many : length (take (c.group_end-to.result - c.loop-from.from)
+    (drop c.loop-from.from edges))
     ≡ c.group_end-to.result - c.loop-from.from =
     length-take-le (c.group_end-to.result - c.loop-from.from) (drop c.loop-from.from edges)
     (omega (
@@ -226,7 +228,8 @@ loop-from-preserved-in_ok-push g c =
     c.in_ok-three.ensures.void here.0 here.1
     ∙ sym (value_in (λ a. value a.shape a.labels (without_splitter (map trit a.targets))) shapes E x
     here.0 here.1) in
-    let many : length (take (c.group_end-to.result - c.loop-from.from) (drop c.loop-from.from edges))
+    let many : length (take (c.group_end-to.result - c.loop-from.from)
+    (drop c.loop-from.from edges))
     ≡ c.group_end-to.result - c.loop-from.from =
     length-take-le (c.group_end-to.result - c.loop-from.from) (drop c.loop-from.from edges)
     (omega (
@@ -254,7 +257,8 @@ loop-from-preserved-in_ok-push g c =
       );
       updating = (
         x + 1,
-        rw c.in_ok-push.ensures.items (leaves toward shapes E p q s edges c.requires.edges all voids untouched rises
+        rw c.in_ok-push.ensures.items (leaves toward shapes E p q s edges c.requires.edges all voids
+            untouched rises
             c.loop-from.from inv.0 c.loop-from.cells.of.items
             c.loop-from.cells.weights.items c.loop-from.moved.items inv.1
             c.group_end-to.result c.group_end-to.ensures.later

@@ -92,7 +92,8 @@ returns-clause-cells g c =
     c.requires.group
     (λ e he. c.requires.in_range (target_at E e) (low e he))
     (λ e he b. c.requires.within (target_at E e) (low e he) b) cells weights c.requires.cells
-    c.set_cells.new.cells.items c.push.new.self.items c.update.new.weight c.in_ok-part.field-0.part here.0
+    c.set_cells.new.cells.items c.push.new.self.items c.update.new.weight c.in_ok-part.field-0.part
+    here.0
     here.1 c.set_cells.ensures.len
     (subst (λ n. All (λ e. get_or c.set_cells.new.cells.items e 0 ≡ n) group)
     (let n : c.len-new.result ≡ length weights = omega arith in n) c.set_cells.ensures.moved)
