@@ -37,7 +37,8 @@ impl Dag {
 
     /// What holds of every dag. Nothing is read or done.
     pub fn is_dag(&self)
-        ensures { IsDag self.now }
+        ensures ordered { IsDag self.now }
+        ensures few { length self.now < 2 ^ 32 }
     {
         let _items = &self.items;
     }

@@ -8,7 +8,7 @@ use Rattle.answer_checker.proofs.Alike.{zip_length, tie_is_like, apart_is_unlike
 use Rattle.answer_checker.proofs.likeness.first_apart.Goals as goal
 
 pub compare-requires : goal.compare-requires
-compare-requires c = (term-some c.args.term.now c.len-count.ensures.term).0
+compare-requires c = (term-some c.args.term.now c.is_term.ensures).0
 
 pub returns-in_default : goal.returns-in_default
 returns-in_default c =

@@ -14,7 +14,7 @@ first_places-requires-clause-enough c =
     omega (
       arith,
       enough c.greatest_is_equivalence.ensures c.stable_labellings_give_stable_lists.ensures
-          now.term now.values.items desorted.occurrences c.len-nodes.ensures.term desorted.sorting
+          now.term now.values.items desorted.occurrences c.is_term.ensures desorted.sorting
           refined.block_of
           (great (content_of now) c.args.refinement.now.system desorted refined c.requires.refined),
       c.len-n.ensures.count,
@@ -26,7 +26,7 @@ pub returns-clause-stable : goal.returns-clause-stable
 returns-clause-stable c =
     let now = c.args.c.now in
     (classes c.greatest_is_equivalence.ensures c.stable_labellings_give_stable_lists.ensures
-    (content_of now) c.args.refinement.now.system c.requires.desorted c.len-nodes.ensures.term
+    (content_of now) c.args.refinement.now.system c.requires.desorted c.is_term.ensures
     (each_below now.values.items _ now.one_each now.in_range) c.args.refinement.now.refined
     c.requires.refined c.block_of.result.now c.len-n.result c.in_ok-firsts.firsts.items
     c.block_of.ensures (c.len-n.ensures.count ∙ sym now.one_each) c.in_ok-firsts.ensures).stable
@@ -35,7 +35,7 @@ pub returns-clause-coarsest : goal.returns-clause-coarsest
 returns-clause-coarsest c =
     let now = c.args.c.now in
     (classes c.greatest_is_equivalence.ensures c.stable_labellings_give_stable_lists.ensures
-    (content_of now) c.args.refinement.now.system c.requires.desorted c.len-nodes.ensures.term
+    (content_of now) c.args.refinement.now.system c.requires.desorted c.is_term.ensures
     (each_below now.values.items _ now.one_each now.in_range) c.args.refinement.now.refined
     c.requires.refined c.block_of.result.now c.len-n.result c.in_ok-firsts.firsts.items
     c.block_of.ensures (c.len-n.ensures.count ∙ sym now.one_each) c.in_ok-firsts.ensures).coarsest
@@ -44,7 +44,7 @@ pub returns-clause-first : goal.returns-clause-first
 returns-clause-first c =
     let now = c.args.c.now in
     (classes c.greatest_is_equivalence.ensures c.stable_labellings_give_stable_lists.ensures
-    (content_of now) c.args.refinement.now.system c.requires.desorted c.len-nodes.ensures.term
+    (content_of now) c.args.refinement.now.system c.requires.desorted c.is_term.ensures
     (each_below now.values.items _ now.one_each now.in_range) c.args.refinement.now.refined
     c.requires.refined c.block_of.result.now c.len-n.result c.in_ok-firsts.firsts.items
     c.block_of.ensures (c.len-n.ensures.count ∙ sym now.one_each) c.in_ok-firsts.ensures).first

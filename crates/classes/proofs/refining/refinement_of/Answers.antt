@@ -8,7 +8,7 @@ use Rattle.classes.proofs.refining.refinement_of.Goals as goal
 pub refined_states-requires-clause-system : goal.refined_states-requires-clause-system
 refined_states-requires-clause-system g c =
     is_packed (content_of c.args.c.now) c.in_ok-system.system c.in_ok-system.ensures.desorted
-    c.sorted_states_are_a_system.ensures c.len-nodes.ensures.term
+    c.sorted_states_are_a_system.ensures c.is_term.ensures
 
 pub returns-clause-counted : goal.returns-clause-counted
 returns-clause-counted g c =

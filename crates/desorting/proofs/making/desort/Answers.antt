@@ -57,7 +57,7 @@ returns c =
         fit =
             made_fit t values found.places found.sources.items found.targets.items are shapes
             table numbers labels numbered edges c.in_ok-edges.ensures.sources
-            c.in_ok-edges.ensures.labels c.in_ok-edges.ensures.targets c.len-nodes.ensures.term;
+            c.in_ok-edges.ensures.labels c.in_ok-edges.ensures.targets c.is_term.ensures;
         sorted = c.in_ok-edges.ensures.states ∙ c.len-count.ensures.count ∙ are.sorted;
         edges =
             as_many_targets edges found.targets.items c.in_ok-edges.ensures.targets ∙ are.edges;

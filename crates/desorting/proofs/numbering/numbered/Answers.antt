@@ -7,7 +7,7 @@ loop-i-preserved c =
     let x : Place = (c.get-node.result.0, c.get-node.result.1.now) in
     record {
       numbered =
-          numbered_step c.args.term.now c.len-nodes.ensures.term c.loop-i.table.shapes
+          numbered_step c.args.term.now c.is_term.ensures c.loop-i.table.shapes
           c.add_structure.new.table.shapes c.loop-i.table.weights
           c.add_structure.new.table.weights c.in_ok-add_structure.ensures.kept
           c.in_ok-add_structure.ensures.kept_weights c.args.places.now c.loop-i.i x

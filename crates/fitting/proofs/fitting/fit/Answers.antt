@@ -3,7 +3,7 @@ use Rattle.fitting.proofs.FitNumerals.{gives-numerals}
 use Rattle.fitting.proofs.fitting.fit.Goals as goal
 
 pub fit_at-requires : goal.fit_at-requires
-fit_at-requires c = (term-some c.args.term.now c.len-count.ensures.term).0
+fit_at-requires c = (term-some c.args.term.now c.is_term.ensures).0
 
 pub returns-clause-numerals : goal.returns-clause-numerals
 returns-clause-numerals c =

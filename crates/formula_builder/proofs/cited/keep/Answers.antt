@@ -19,13 +19,13 @@ push-requires-then-marks-k-clause-cites c =
     (kept_cites c.args.dag.now c.args.marks.now c.args.small.now c.args.numbers.now.items
     c.args.k c.requires.kept c.formula.result.now c.formula.ensures.there
     (marked_from c.args.marks.now c.args.k _ (omega (arith, c.requires.one_each, c.requires.next))
-    c.if-marks-k.true) c.len-ordered.ensures.ordered c.requires.closed)
+    c.if-marks-k.true) c.is_dag.ensures.ordered c.requires.closed)
 
 pub push-requires-then-marks-k-clause-room : goal.push-requires-then-marks-k-clause-room
 push-requires-then-marks-k-clause-room c =
     let few = kept_few c.args.dag.now c.args.marks.now c.args.small.now c.args.numbers.now.items
     c.args.k c.requires.kept in
-    omega (arith, few, c.requires.next, c.ranges.k.fits, c.len-ordered.ensures.count)
+    omega (arith, few, c.requires.next, c.ranges.k.fits, c.is_dag.ensures.few)
 
 pub returns-in_ok-push-2 : goal.returns-in_ok-push-2
 returns-in_ok-push-2 c =
@@ -50,7 +50,7 @@ returns-in_ok-push-2 c =
           c.requires.kept c.formula.result.now c.formula.ensures.there
           (marked_from c.args.marks.now c.args.k _
           (omega (arith, c.requires.one_each, c.requires.next)) c.if-marks-k.true)
-          c.len-ordered.ensures.ordered c.requires.closed));
+          c.is_dag.ensures.ordered c.requires.closed));
     }
 
 pub returns-else-marks-k : goal.returns-else-marks-k

@@ -7,12 +7,12 @@ pub mark_cited-requires : goal.mark_cited-requires
 mark_cited-requires c =
     cites-more c.formula.result.now c.args.k _
     (omega (arith, c.requires.there, c.requires.one_each))
-    (c.len-ordered.ensures.ordered c.args.k c.formula.result.now c.formula.ensures.there)
+    (c.is_dag.ensures.ordered c.args.k c.formula.result.now c.formula.ensures.there)
 
 pub returns-then-index-clause-closed : goal.returns-then-index-clause-closed
 returns-then-index-clause-closed c =
     through_closed c.args.dag.now c.args.k c.formula.result.now c.args.marks.now.items
-    c.mark_cited.new.marks.items c.len-ordered.ensures.ordered c.formula.ensures.there
+    c.mark_cited.new.marks.items c.is_dag.ensures.ordered c.formula.ensures.there
     c.mark_cited.ensures.marked
 
 pub returns-then-index-clause-reasoned : goal.returns-then-index-clause-reasoned

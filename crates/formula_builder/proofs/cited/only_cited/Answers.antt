@@ -12,7 +12,7 @@ kept-requires-clause-closed c =
 pub returns : goal.returns
 returns c =
     all_kept c.args.dag.now c.args.wanted.now c.in_ok-marks.marks.items c.in_ok-small.small
-    c.in_ok-small.numbers.items c.in_ok-new.new.items c.len-ordered.ensures.ordered c.requires
+    c.in_ok-small.numbers.items c.in_ok-new.new.items c.is_dag.ensures.ordered c.requires
     c.in_ok-marks.ensures
     (subst (λ (bs : List Bool). AreKept c.args.dag.now bs c.in_ok-small.small
     c.in_ok-small.numbers.items (length c.args.dag.now)) c.as_slice.ensures.value

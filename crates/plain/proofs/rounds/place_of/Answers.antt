@@ -2,4 +2,4 @@ use Rattle.functor_terms.proofs.TermLaws.{term-some}
 use Rattle.plain.proofs.rounds.place_of.Goals as goal
 
 pub are_equal-requires-clause-node : goal.are_equal-requires-clause-node
-are_equal-requires-clause-node c = (term-some c.args.term.now c.len-count.ensures.term).0
+are_equal-requires-clause-node c = (term-some c.args.term.now c.is_term.ensures).0

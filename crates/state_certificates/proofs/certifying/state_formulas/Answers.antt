@@ -28,7 +28,7 @@ build-requires-clause-system c =
     (sym c.iface.ensures.iface) (sym c.shapes-shapes.ensures.shapes)
     (sym c.edges-edges.ensures.edges)
     (is_packed (content_of c.args.c.now) c.args.system.now c.requires.desorted
-    c.sorted_states_are_a_system.ensures c.len-nodes.ensures.term)
+    c.sorted_states_are_a_system.ensures c.is_term.ensures)
 
 pub build-requires-clause-legal : goal.build-requires-clause-legal
 build-requires-clause-legal c = (
@@ -49,7 +49,7 @@ pub returns-clause-exact : goal.returns-clause-exact
 returns-clause-exact c =
     let cert = c.in_ok-told.told in
     states_told (content_of c.args.c.now) c.args.system.now c.requires.desorted
-    c.values_are_of_layers.ensures c.greatest_is_equivalence.ensures c.len-nodes.ensures.term
+    c.values_are_of_layers.ensures c.greatest_is_equivalence.ensures c.is_term.ensures
     c.args.refined.now c.requires.refined cert c.in_ok-told.ensures.same_blocks
     (along (Told cert) c.iface.ensures.iface c.shapes-shapes.ensures.shapes
     c.edges-edges.ensures.edges
@@ -60,19 +60,19 @@ returns-clause-separate c =
     let now = c.args.c.now in
     let cert = c.in_ok-told.told in
     separate c.equivalent_states_have_one_truth.ensures.content (content_of now)
-    c.len-nodes.ensures.term (each_below now.values.items _ now.one_each now.in_range) cert
+    c.is_term.ensures (each_below now.values.items _ now.one_each now.in_range) cert
     (states_told (content_of now) c.args.system.now c.requires.desorted
-    c.values_are_of_layers.ensures c.greatest_is_equivalence.ensures c.len-nodes.ensures.term
+    c.values_are_of_layers.ensures c.greatest_is_equivalence.ensures c.is_term.ensures
     c.args.refined.now c.requires.refined cert c.in_ok-told.ensures.same_blocks
     (along (Told cert) c.iface.ensures.iface c.shapes-shapes.ensures.shapes
     c.edges-edges.ensures.edges c.in_ok-told.ensures.told))
-    (subst (λ (fs : List Formula). IsDag fs) c.dag.ensures c.len-ordered.ensures.ordered)
+    (subst (λ (fs : List Formula). IsDag fs) c.dag.ensures c.is_dag.ensures.ordered)
 
 pub returns-clause-apart : goal.returns-clause-apart
 returns-clause-apart c =
     let cert = c.in_ok-told.told in
     told_apart (content_of c.args.c.now) c.args.system.now c.requires.desorted
-    c.values_are_of_layers.ensures c.greatest_is_equivalence.ensures c.len-nodes.ensures.term
+    c.values_are_of_layers.ensures c.greatest_is_equivalence.ensures c.is_term.ensures
     c.args.refined.now c.requires.refined cert c.in_ok-told.ensures.same_blocks
     (along (Told cert) c.iface.ensures.iface c.shapes-shapes.ensures.shapes
     c.edges-edges.ensures.edges
@@ -81,7 +81,7 @@ returns-clause-apart c =
 pub returns-clause-forms : goal.returns-clause-forms
 returns-clause-forms c =
     let cert = c.in_ok-told.told in
-    forms c.args.c.now.term c.len-nodes.ensures.term c.args.c.now.denominator
+    forms c.args.c.now.term c.is_term.ensures c.args.c.now.denominator
     c.args.c.now.values.items c.args.system.now c.requires.desorted
     c.values_are_of_layers.ensures cert.dag cert.blocks cert.block_of
     (along (Told cert) c.iface.ensures.iface c.shapes-shapes.ensures.shapes
@@ -91,7 +91,7 @@ returns-clause-forms c =
 pub returns-clause-fit : goal.returns-clause-fit
 returns-clause-fit c =
     let cert = c.in_ok-told.told in
-    all_fit c.args.c.now.term c.len-nodes.ensures.term c.args.c.now.denominator
+    all_fit c.args.c.now.term c.is_term.ensures c.args.c.now.denominator
     c.args.c.now.values.items c.args.system.now c.requires.desorted
     c.values_are_of_layers.ensures cert.dag cert.blocks cert.block_of
     (along (Told cert) c.iface.ensures.iface c.shapes-shapes.ensures.shapes
@@ -102,7 +102,7 @@ pub returns-clause-writable : goal.returns-clause-writable
 returns-clause-writable c =
     let now = c.args.c.now in
     let cert = c.in_ok-told.told in
-    all_writable now.term c.len-nodes.ensures.term now.denominator now.values.items
+    all_writable now.term c.is_term.ensures now.denominator now.values.items
     c.args.system.now c.requires.desorted c.values_are_of_layers.ensures cert.dag cert.blocks
     cert.block_of
     (along (Told cert) c.iface.ensures.iface c.shapes-shapes.ensures.shapes
@@ -121,24 +121,24 @@ returns-clause-certificates c =
       exact =
           states_told (content_of now) c.args.system.now c.requires.desorted
           c.values_are_of_layers.ensures c.greatest_is_equivalence.ensures
-          c.len-nodes.ensures.term c.args.refined.now c.requires.refined cert
+          c.is_term.ensures c.args.refined.now c.requires.refined cert
           c.in_ok-told.ensures.same_blocks told;
       one_each =
           omega (
             arith,
             enough c.greatest_is_equivalence.ensures c.stable_labellings_give_stable_lists.ensures
-                now.term now.values.items c.requires.desorted.occurrences c.len-nodes.ensures.term
+                now.term now.values.items c.requires.desorted.occurrences c.is_term.ensures
                 c.requires.desorted.sorting c.args.refined.now.block_of
                 (great (content_of now) c.args.system.now c.requires.desorted c.args.refined.now
                 c.requires.refined),
             ap (λ (ns : List ℕ). length ns) c.in_ok-told.ensures.same_blocks,
           );
       fit =
-          all_fit now.term c.len-nodes.ensures.term now.denominator now.values.items
+          all_fit now.term c.is_term.ensures now.denominator now.values.items
           c.args.system.now c.requires.desorted c.values_are_of_layers.ensures cert.dag cert.blocks
           cert.block_of told;
       writable =
-          all_writable now.term c.len-nodes.ensures.term now.denominator now.values.items
+          all_writable now.term c.is_term.ensures now.denominator now.values.items
           c.args.system.now c.requires.desorted c.values_are_of_layers.ensures cert.dag cert.blocks
           cert.block_of told now.positive now.bounded;
       few =

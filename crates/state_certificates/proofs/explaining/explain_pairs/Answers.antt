@@ -37,7 +37,7 @@ returns c =
     ∙ ap (renewed answers) c.as_slice-4.ensures.value in
     subst (IsExplanation (content_of now) pairs small) (sym verdicts)
     (explained (content_of now) told c.requires.told small
-    (subst (λ (fs : List Formula). IsDag fs) c.dag-dag.ensures c.len-ordered.ensures.ordered)
+    (subst (λ (fs : List Formula). IsDag fs) c.dag-dag.ensures c.is_dag.ensures.ordered)
     c.cited_formulas_are_old.ensures.no_more pairs c.requires.are_there new
     (subst (λ (fs : List Formula). IsOnlyCited fs (numbers_in answers) small new)
     c.dag-dag.ensures

@@ -11,7 +11,7 @@ pub returns-in_ok-cut_out-in-Some-clause-apart : goal.returns-in_ok-cut_out-in-S
 returns-in_ok-cut_out-in-Some-clause-apart c =
     let s = c.in_ok-cut_out-in-Some.field-0 in
     separates (content_of c.args.c.now) c.args.told.now c.requires.told
-    (subst (λ (fs : List Formula). IsDag fs) c.dag-dag.ensures c.len-ordered.ensures.ordered)
+    (subst (λ (fs : List Formula). IsDag fs) c.dag-dag.ensures c.is_dag.ensures.ordered)
     c.args.i c.args.j c.requires.i_is_there c.requires.j_is_there
     (λ e. true≢false (c.in-Some.ensures.none.1 e))
     c.in-Some.k c.in-Some.ensures.formula s.dag s.formula

@@ -6,7 +6,7 @@ use Rattle.structures.proofs.expand.expand.Goals as goal
 
 pub lead-requires-clause-inside : goal.lead-requires-clause-inside
 lead-requires-clause-inside c =
-    children_inside c.args.term.now c.args.node c.args.value.now c.len-nodes.ensures.term
+    children_inside c.args.term.now c.args.node c.args.value.now c.is_term.ensures
     c.requires.inside c.loop-i.i (c.child-q.result.0, c.child-q.result.1.now) c.child-q.ensures
 
 pub loop-i-preserved : goal.loop-i-preserved

@@ -8,14 +8,14 @@ use Rattle.structures.proofs.walking.follow.Goals as goal
 
 pub expand-requires-clause-inside : goal.expand-requires-clause-inside
 expand-requires-clause-inside c =
-    node_inside c.args.term.now c.args.values.now c.len-nodes.ensures.term c.loop-next.places
+    node_inside c.args.term.now c.args.values.now c.is_term.ensures c.loop-next.places
     c.loop-next.sources.items c.loop-next.targets.items c.loop-next.next
     c.loop-next.invariant.walked c.loop-next.next _ c.get-node.ensures.place
 
 pub child_count-more-requires : goal.child_count-more-requires
 child_count-more-requires c = record {
   inside =
-      node_inside c.args.term.now c.args.values.now c.len-nodes.ensures.term c.loop-next.places
+      node_inside c.args.term.now c.args.values.now c.is_term.ensures c.loop-next.places
       c.loop-next.sources.items c.loop-next.targets.items c.loop-next.next
       c.loop-next.invariant.walked c.loop-next.next _ c.get-node.ensures.place;
 }
@@ -31,7 +31,7 @@ expand-requires-clause-few c =
 pub loop-next-smaller : goal.loop-next-smaller
 loop-next-smaller c =
     let one : length c.loop-next.places ≤ sorted_count c.args.term.now c.args.values.now =
-    few_places c.args.term.now c.args.values.now c.len-nodes.ensures.term c.loop-next.places
+    few_places c.args.term.now c.args.values.now c.is_term.ensures c.loop-next.places
     c.loop-next.sources.items c.loop-next.targets.items c.loop-next.next
     c.loop-next.invariant.walked in
     let smaller :
@@ -57,7 +57,7 @@ loop-next-preserved c =
           (subst (λ ts. IsWalked t c.args.values.now
           (c.loop-next.places ++ layers_in t kids) sources ts (at + 1))
           (sym c.in_ok-expand.ensures.targets)
-          (walked_step t c.args.values.now c.len-nodes.ensures.term c.loop-next.places
+          (walked_step t c.args.values.now c.is_term.ensures c.loop-next.places
           c.loop-next.sources.items c.loop-next.targets.items at
           c.loop-next.invariant.walked (p, v) c.get-node.ensures.place)));
       within =
