@@ -1,4 +1,4 @@
-use Rattle.std.proofs.Common.{◌<◌, ◌∙◌, sym, arith}
+use Rattle.std.proofs.Common.{sym, arith}
 use Rattle.refiner.proofs.Sizes.{size_less}
 use Rattle.refiner.proofs.TakenOut.{taken}
 use Rattle.refiner.proofs.splitter.take_out.Goals as goal
