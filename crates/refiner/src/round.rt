@@ -98,7 +98,7 @@ fn one_round<I: Iface, L: Ledger>(
         steps,
     )?;
     count_scans(&progress.blocks, splitter, &mut progress.scans);
-    take_out(&progress.blocks, &mut progress.coarse, splitter, c);
+    take_out(&progress.blocks, &mut progress.coarse, splitter, c)?;
     split_touched(
         alloc,
         &mut progress.blocks,

@@ -6,13 +6,12 @@
 
 ghost use Rattle.std.specs.Prelude.{◌≡◌, ◌≢◌, ◌+◌, ◌<◌, ◌≤◌, ◌^◌, ◌==◌, if◌then◌else◌, ℕ, length, slice_index, [], All, IfOk, MatchOption};
 ghost use Rattle.refinable_partition.specs.Blocks.{block_at, states_of};
-ghost use Rattle.refiner.specs.Grouping.{IsUnmarked};
 ghost use Rattle.refiner.specs.Making.{AreNested, AreSingle, IsHalf, IsTakenOut};
 ghost use Rattle.refiner.specs.Recorded.{Split as TheSplit};
 ghost use Rattle.refiner.specs.Waiting.{AddsParts, AddsSplits, AreListed, AreWaiting};
 ghost use Rattle.refiner.specs.declared.parts.Part.{Part as ThePart};
 
-use crate::grouping::mark_all;
+use crate::coarse::Coarse;
 use crate::history::Splits;
 use crate::parts::Part;
 use refinable_partition::Partition;
@@ -20,11 +19,7 @@ use std::alloc::AllocError;
 
 /// A state whose block has at most half of the members of its coarse block. States of other blocks
 /// are taken off the list.
-pub(crate) fn find_half(
-    blocks: &Partition,
-    coarse: &Partition,
-    waiting: &mut Vec<u32>,
-) -> Option<u32>
+pub(crate) fn find_half(blocks: &Partition, coarse: &Coarse, waiting: &mut Vec<u32>) -> Option<u32>
     requires states { states_of coarse.now ≡ states_of blocks.now }
     requires nested { AreNested blocks.now coarse.now }
     requires waiting { AreWaiting blocks.now coarse.now waiting.old.items }
@@ -87,22 +82,25 @@ pub(crate) fn list_blocks(blocks: &Partition, waiting: &mut Vec<u32>) -> Result<
 
 /// Makes the members of block s a coarse block of their own. They are some and not all members of
 /// coarse block c.
-pub(crate) fn take_out(blocks: &Partition, coarse: &mut Partition, s: u32, c: u32)
+pub(crate) fn take_out(
+    blocks: &Partition,
+    coarse: &mut Coarse,
+    s: u32,
+    c: u32,
+) -> Result<(), AllocError>
     requires live { s < blocks.now.count }
     requires coarse_live { c < coarse.old.count }
     requires states { states_of coarse.old ≡ states_of blocks.now }
-    requires unmarked { IsUnmarked coarse.old }
     requires within { (x : ℕ) → x < states_of blocks.now →
         block_at blocks.now x ≡ s → block_at coarse.old x ≡ c }
     requires proper { (y : ℕ) × (y < states_of blocks.now) × (block_at coarse.old y ≡ c)
         × (block_at blocks.now y ≢ s) }
-    ensures out { IsTakenOut blocks.now coarse.old s coarse.new }
-    ensures one_more { coarse.new.count ≡ coarse.old.count + 1 }
-    ensures states { states_of coarse.new ≡ states_of coarse.old }
-    ensures unmarked { IsUnmarked coarse.new }
+    ensures out { IfOk result (λ _. IsTakenOut blocks.now coarse.old s coarse.new) }
+    ensures one_more { IfOk result (λ _. coarse.new.count ≡ coarse.old.count + 1) }
+    ensures states { IfOk result (λ _. states_of coarse.new ≡ states_of coarse.old) }
 {
-    mark_all(coarse, blocks.members(s));
-    let _ = coarse.split_marked(c);
+    coarse.take_out(blocks.members(s), c)?;
+    Ok(())
 }
 
 /// Counts one scan more for each member of block s.

@@ -10,6 +10,7 @@ ghost use Rattle.refiner.specs.Making.{trit_in};
 ghost use Rattle.refiner.specs.Touched.{AreMoved};
 
 use crate::cells::{Cells, set_cells};
+use crate::coarse::Coarse;
 use crate::comparing::is_same;
 use crate::edges::{group_end, read_labels};
 use crate::moved::Moved;
@@ -29,7 +30,7 @@ fn update_one<I: Iface, L: Ledger>(
     shapes: &[I::Shape],
     store: &EdgeStore<I::Label>,
     blocks: &Partition,
-    coarse: &Partition,
+    coarse: &Coarse,
     s: u32,
     c: u32,
     x: u32,
@@ -91,7 +92,7 @@ pub(crate) fn update_cells<I: Iface, L: Ledger>(
     shapes: &[I::Shape],
     store: &EdgeStore<I::Label>,
     blocks: &Partition,
-    coarse: &Partition,
+    coarse: &Coarse,
     s: u32,
     c: u32,
     edges: &[u32],

@@ -111,7 +111,6 @@ one_round-requires-clause-ready g c =
       numbers_small = was.numbers_small;
       few = was.few;
       unmarked = was.unmarked;
-      coarse_unmarked = was.coarse_unmarked;
       one_scan = was.one_scan;
       scans_small = was.scans_small;
       waiting = c.find_half.ensures.waiting;

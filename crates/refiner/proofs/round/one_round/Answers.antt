@@ -192,7 +192,7 @@ returns-clause-round g c =
     torn c.block_of-splitter.ensures.block c.block_of-c.ensures.block was refl refl
     all (values_are value system (trit_in p q s k))
     c.split_touched.new.blocks c.take_out.new.coarse c.push.new.self.items cut
-    c.take_out.ensures.out c.take_out.ensures.states c.in_ok-push.ensures.items
+    c.in_ok-take_out.ensures.out c.in_ok-take_out.ensures.states c.in_ok-push.ensures.items
 
 pub returns-clause-ready : goal.returns-clause-ready
 returns-clause-ready g c =
@@ -229,7 +229,7 @@ returns-clause-ready g c =
     let states : length c.split_touched.new.blocks.block ≡ c.args.store.now.0 =
     cut.states ∙ was.states in
     let coarse : length c.take_out.new.coarse.block ≡ length c.split_touched.new.blocks.block =
-    c.take_out.ensures.states ∙ ready.states ∙ sym cut.states in
+    c.in_ok-take_out.ensures.states ∙ ready.states ∙ sym cut.states in
     record {
       states = states;
       numbered = record {
@@ -250,7 +250,7 @@ returns-clause-ready g c =
               length_push (set numbers k (2 * c.args.number + 2)) (2 * c.args.number + 1),
               length-set numbers k (2 * c.args.number + 2),
               ready.one_number,
-              c.take_out.ensures.one_more,
+              c.in_ok-take_out.ensures.one_more,
             );
         numbers_apart =
             rw c.in_ok-push.ensures.items
@@ -267,7 +267,6 @@ returns-clause-ready g c =
         states,
       );
       unmarked = cut.unmarked;
-      coarse_unmarked = c.take_out.ensures.unmarked;
       one_scan = c.count_scans.ensures.one_each ∙ was.one_scan;
       scans_small =
           scans_small_next pr.scans.items c.count_scans.new.scans.items
@@ -280,7 +279,7 @@ returns-clause-ready g c =
           c.take_out.new.coarse s c.split_touched.new.history.splits
           pr.waiting.items c.add_waiting.new.waiting.items c.requires.nested ready.states
           ready.in_blocks
-          ready.in_coarse c.take_out.ensures.out c.take_out.ensures.states cut was.waiting
+          ready.in_coarse c.in_ok-take_out.ensures.out c.in_ok-take_out.ensures.states cut was.waiting
           (subst (λ (ss : List Split). AddsSplits c.split_touched.new.blocks ss
           pr.waiting.items c.add_waiting.new.waiting.items)
           c.open_splits-splits.ensures c.in_ok-add_waiting.ensures);
@@ -305,7 +304,7 @@ returns-clause-cells g c =
     cells_agree (g.I.Iface.toward c.args.iface.now) c.args.shapes.now E (class_after p q s)
     (λ x. block_at c.take_out.new.coarse) c.update_cells.new.cells.of.items
     c.update_cells.new.cells.weights.items
-    (λ e he. sym (c.take_out.ensures.out (target_at E e)
+    (λ e he. sym (c.in_ok-take_out.ensures.out (target_at E e)
     (let t = target_low E c.args.store.now.0 e c.is_stored.ensures.targets_in he in
     omega (arith, t, c.requires.ready.states))))
     c.in_ok-update_cells.ensures.cells

@@ -1,31 +1,30 @@
-use Rattle.std.proofs.Common.{◌+◌, ◌∙◌, ap}
-use Rattle.std.proofs.lemmas.List.{get_or_default}
-use Rattle.refinable_partition.specs.Blocks.{IsSplitOff}
-use Rattle.refiner.proofs.TakenOut.{splits_off, taken}
+use Rattle.std.proofs.Common.{sym, arith}
+use Rattle.refiner.proofs.Sizes.{size_less}
+use Rattle.refiner.proofs.TakenOut.{taken}
 use Rattle.refiner.proofs.splitter.take_out.Goals as goal
 
--- the split happens, since some and not all members of the coarse block are marked
-split : (c : goal.After-split_marked) → IsSplitOff c.mark_all.new.blocks c.args.c
-    c.split_marked.new.self
-split c =
+pub take_out-requires : goal.take_out-requires
+take_out-requires c =
+    let p = c.args.blocks.now in
+    let q = c.args.coarse.now in
+    let members = c.members.ensures.members in
     let w = c.requires.proper in
-    splits_off c.args.blocks.now c.args.coarse.now c.mark_all.new.blocks c.split_marked.new.self
-    c.args.s c.args.c c.members.result.now
-    c.members.ensures.members c.requires.states c.mark_all.ensures.blocks
-    (λ x hx m. (let k = c.mark_all.ensures.only x hx m in
-    (k.0, k.1, get_or_default c.members.result.now k.0 0 x k.1 ∙ k.2)))
-    (λ k h. c.mark_all.ensures.all k 0 h) c.requires.within w.0 w.1 w.2 w.3
-    c.split_marked.result c.split_marked.ensures.mixed c.split_marked.ensures.split
+    record {
+      live = c.requires.coarse_live;
+      each = λ k d h. (
+          let at = members.each k d h in
+          (omega (arith, at.0, c.requires.states), c.requires.within _ at.0 at.1));
+      once = members.once;
+      some = members.some;
+      proper = omega (
+        arith,
+        members.as_many,
+        size_less p.block q.block c.args.s c.args.c w.0 (sym c.requires.states)
+            (λ x hx e. c.requires.within x hx e) w.1 w.2 w.3,
+      );
+    }
 
 pub returns-clause-out : goal.returns-clause-out
 returns-clause-out c =
-    let w = c.requires.proper in
-    taken c.args.blocks.now c.args.coarse.now c.mark_all.new.blocks c.split_marked.new.self c.args.s
-    c.args.c c.members.result.now
-    c.members.ensures.members c.requires.states c.mark_all.ensures.blocks
-    (λ x hx m. (let k = c.mark_all.ensures.only x hx m in
-    (k.0, k.1, get_or_default c.members.result.now k.0 0 x k.1 ∙ k.2)))
-    (λ k h. c.mark_all.ensures.all k 0 h) c.requires.within w.0 w.1 w.2 w.3 (split c)
-
-pub returns-clause-one_more : goal.returns-clause-one_more
-returns-clause-one_more c = (split c).one_more ∙ ap (λ n. n + 1) c.mark_all.ensures.blocks.count
+    taken c.args.blocks.now c.args.coarse.now c.take_out.new.self c.args.s c.members.result.now
+    c.members.ensures.members c.in_ok-take_out.ensures.moved c.in_ok-take_out.ensures.others
