@@ -13,7 +13,8 @@ loop-x-preserved c =
     let i : ℕ = c.loop-x.x-index in
     let x : ℕ = get_or c.args.states.now i 0 in
     let was = c.loop-x.invariant in
-    let hx : x < length block = omega (arith, c.requires.in_range i 0 c.loop-x-test.true, was.len) in
+    let hx : x < length block = omega (arith, c.requires.in_range i 0 c.loop-x-test.true, was.len)
+    in
     record {
       len = length-set block x c.args.new ∙ was.len;
       moved = λ k low. (
@@ -24,7 +25,8 @@ loop-x-preserved c =
           grind (arith, nat_tests, at, before, same));
       others = λ y out. (
           let apart : y ≢ x = λ e. out i (omega arith) (sym e) in
-          get_or-set_other block x y c.args.new 0 apart ∙ was.others y (λ k low. out k (omega arith)));
+          get_or-set_other block x y c.args.new 0 apart
+          ∙ was.others y (λ k low. out k (omega arith)));
       either = λ y. elim (cases_eq y x) [
         | inl here ↦ inl (subst (λ z. get_or (set block x c.args.new) z 0 ≡ c.args.new) (sym here)
             (get_or-set_same block x c.args.new 0 hx))

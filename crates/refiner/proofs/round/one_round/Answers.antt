@@ -279,7 +279,8 @@ returns-clause-ready g c =
           c.take_out.new.coarse s c.split_touched.new.history.splits
           pr.waiting.items c.add_waiting.new.waiting.items c.requires.nested ready.states
           ready.in_blocks
-          ready.in_coarse c.in_ok-take_out.ensures.out c.in_ok-take_out.ensures.states cut was.waiting
+          ready.in_coarse c.in_ok-take_out.ensures.out c.in_ok-take_out.ensures.states cut
+          was.waiting
           (subst (λ (ss : List Split). AddsSplits c.split_touched.new.blocks ss
           pr.waiting.items c.add_waiting.new.waiting.items)
           c.open_splits-splits.ensures c.in_ok-add_waiting.ensures);
