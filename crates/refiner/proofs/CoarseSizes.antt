@@ -24,7 +24,7 @@ pub few_sized : (of sizes : List ℕ) → AreSized of sizes → length sizes ≤
 few_sized of sizes sized = omega (arith, as_many sizes sized.none_empty, sized.total)
 
 -- a coarse block that no state is in has no member
-size_none : (of : List ℕ) (c : ℕ) → ((x : ℕ) → x < length of → get_or of x 0 ≢ c) →
+pub size_none : (of : List ℕ) (c : ℕ) → ((x : ℕ) → x < length of → get_or of x 0 ≢ c) →
     size_in of c ≡ 0
 size_none [] c apart = refl
 size_none (d ∷ ds) c apart =

@@ -6,8 +6,8 @@
 
 ghost use Rattle.std.specs.Prelude.{◌≡◌, ◌≢◌, ◌+◌, ◌<◌, ◌≤◌, ◌^◌, ◌⊎◌, ℕ, length, replicate, slice_index, All, AllPairs, IfOk};
 ghost use Rattle.refinable_partition.specs.Blocks.{block_at, states_of, size_in};
-ghost use Rattle.refinable_partition.specs.Layout.{AreMoved as HaveLeft};
 
+use crate::numbering::renumber;
 use std::alloc::{AllocError, Global};
 use std::marker::Model;
 
@@ -32,25 +32,6 @@ impl Model for Coarse {
     } };
 
     ghost invariant = { λ q. AreSized q.of.items q.sizes.items };
-}
-
-/// Gives some states of one coarse block, each listed once, a new one.
-fn give_coarse(of: &mut Vec<u32>, states: &[u32], new: u32)
-    requires in_range { All (λ x. x < length of.old.items) states.now }
-    requires once { AllPairs (λ x y. x ≢ y) states.now }
-    ensures len { length of.new.items ≡ length of.old.items }
-    ensures moved { All (λ x. slice_index of.new.items x ≡ new) states.now }
-    ensures others { (x : ℕ) → All (λ y. y ≢ x) states.now →
-        slice_index of.new.items x ≡ slice_index of.old.items x }
-    ensures either { (x : ℕ) → (slice_index of.new.items x ≡ new)
-        ⊎ (slice_index of.new.items x ≡ slice_index of.old.items x) }
-    ensures counted { (old : ℕ) → old ≢ new →
-        All (λ x. slice_index of.old.items x ≡ old) states.now →
-        HaveLeft old new (length states.now) of.old.items of.new.items }
-{
-    for x in states {
-        of[*x as usize] = new;
-    }
 }
 
 impl Coarse {
@@ -119,7 +100,7 @@ impl Coarse {
         let many = states.len() as u32;
         self.sizes.push(many)?;
         self.sizes[c as usize] -= many;
-        give_coarse(&mut self.of, states, new);
+        renumber(&mut self.of, states, new);
         Ok(())
     }
 }

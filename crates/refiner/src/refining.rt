@@ -10,7 +10,7 @@ use crate::progress::Progress;
 use crate::refined::Refined;
 use crate::round::all_rounds;
 use crate::splitter::list_blocks;
-use crate::start::{edge_sources, first_values, start_blocks};
+use crate::start::{edge_counts, edge_sources, first_values, start_blocks};
 use edge_store::EdgeStore;
 use iface::Iface;
 use outside::Steps;
@@ -70,6 +70,7 @@ pub fn refine<I: Iface, L: Ledger>(
     let (values, weights) = first_values(alloc, iface, shapes, store, steps)?;
     let mut cells = Cells {
         of: edge_sources(alloc, store)?,
+        sizes: edge_counts(alloc, store)?,
         weights,
     };
     let mut progress = Progress::begun(alloc, n)?;

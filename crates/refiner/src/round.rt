@@ -3,7 +3,7 @@
 ghost use Rattle.std.specs.Prelude.{◌≡◌, ◌+◌, ◌*◌, ◌<◌, ◌≤◌, ◌^◌, ◌==◌, if◌then◌else◌, ℕ, List, [], length, IfOk, slice_index};
 ghost use Rattle.refinable_partition.specs.Blocks.{block_at, states_of};
 ghost use Rattle.sorted_systems.specs.Systems.{IsSystem, IsGreatestStable, system_from};
-ghost use Rattle.refiner.specs.Cells.{AreCells, many_into, scanned};
+ghost use Rattle.refiner.specs.Cells.{AreCells, AreCounted, many_into, scanned};
 ghost use Rattle.refiner.specs.History.{IsRound, IsStart, Moment};
 ghost use Rattle.refiner.specs.Recorded.{round_with};
 ghost use Rattle.refiner.specs.declared.parts.Start.{Start};
@@ -53,6 +53,8 @@ fn one_round<I: Iface, L: Ledger>(
         (moment_at progress.old) }
     requires cells { AreCells (I.toward iface.now) shapes.now store.now.1
         (λ _. block_at progress.old.coarse) cells.old.of.items cells.old.weights.items }
+    requires counted { AreCounted cells.old.of.items cells.old.sizes.items
+        cells.old.weights.items }
     requires room { length cells.old.weights.items + 2 ^ 26 ≤ 2 ^ 32 }
     requires begins { history.old.splits ≡ [] }
     ensures rounds { IfOk result (λ _. history.new.rounds ≡ history.old.rounds) }
@@ -73,6 +75,8 @@ fn one_round<I: Iface, L: Ledger>(
         r.1 ≡ many_into progress.old.blocks r.0.splitter store.now.1) }
     ensures cells { IfOk result (λ _. AreCells (I.toward iface.now) shapes.now store.now.1
         (λ _. block_at progress.new.coarse) cells.new.of.items cells.new.weights.items) }
+    ensures sizes { IfOk result (λ _. AreCounted cells.new.of.items cells.new.sizes.items
+        cells.new.weights.items) }
     ensures few_more { IfOk result (λ r.
         length cells.new.weights.items ≤ length cells.old.weights.items + r.1) }
     ensures grows { steps.old ≤ steps.new }
@@ -145,6 +149,8 @@ pub(crate) fn all_rounds<I: Iface, L: Ledger>(
         (system_from 0 shapes.now store.now.1) start (moment_at progress.old) }
     requires cells { AreCells (I.toward iface.now) shapes.now store.now.1
         (λ _. block_at progress.old.coarse) cells.old.of.items cells.old.weights.items }
+    requires counted { AreCounted cells.old.of.items cells.old.sizes.items
+        cells.old.weights.items }
     requires few_cells { length cells.old.weights.items ≤ 2 ^ 26 }
     ensures history { IfOk result (λ r. (later : List Moment) ×
         LeadsTo (I.node iface.now) (I.value iface.now) (system_from 0 shapes.now store.now.1)

@@ -1,9 +1,9 @@
 //! The blocks before the first round: the states by node and value.
 
-ghost use Rattle.std.specs.Prelude.{◌≡◌, ◌+◌, ◌<◌, ◌≤◌, ◌^◌, ℕ, length, map, IfOk};
+ghost use Rattle.std.specs.Prelude.{◌≡◌, ◌+◌, ◌<◌, ◌≤◌, ◌^◌, ℕ, length, map, slice_index, IfOk};
 ghost use Rattle.modalities.specs.declared.three.Three.{Three};
 ghost use Rattle.edge_store.specs.Edges.{sources_of};
-ghost use Rattle.refinable_partition.specs.Blocks.{block_at, states_of};
+ghost use Rattle.refinable_partition.specs.Blocks.{block_at, states_of, size_in};
 ghost use Rattle.sorted_systems.specs.Systems.{IsSystem, system_from};
 ghost use Rattle.refiner.specs.Cells.{AreWhole};
 ghost use Rattle.refiner.specs.Grouping.{IsUnmarked};
@@ -63,6 +63,22 @@ pub(crate) fn edge_sources<A: Copy>(
     let mut found = Vec::with_capacity(alloc, store.len() as usize)?;
     for e in 0..store.len() {
         found.push(store.source(e))?;
+    }
+    Ok(found)
+}
+
+/// How many edges each state has.
+pub(crate) fn edge_counts<A: Copy>(
+    alloc: Global,
+    store: &EdgeStore<A>,
+) -> Result<Vec<u32>, AllocError>
+    ensures one_each { IfOk result (λ v. length v.items ≡ store.now.0) }
+    ensures counts { IfOk result (λ v. (x : ℕ) → x < store.now.0 →
+        slice_index v.items x ≡ size_in (sources_of store.now.1) x) }
+{
+    let mut found = Vec::with_capacity(alloc, store.states() as usize)?;
+    for x in 0..store.states() {
+        found.push(store.from_state(x).len() as u32)?;
     }
     Ok(found)
 }

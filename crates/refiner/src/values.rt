@@ -5,11 +5,11 @@ ghost use Rattle.iface.specs.Trits.{without_splitter};
 ghost use Rattle.edge_store.specs.Edges.{labels_from, targets_from};
 ghost use Rattle.refinable_partition.specs.Blocks.{block_at, states_of};
 ghost use Rattle.sorted_systems.specs.Systems.{IsSystem, system_from};
-ghost use Rattle.refiner.specs.Cells.{AreCells, AreEdgesWithin, AreEdgesBetween, class_below, class_after, round_values, round_voids, source_at};
+ghost use Rattle.refiner.specs.Cells.{AreCells, AreCounted, AreEdgesWithin, AreEdgesBetween, class_below, class_after, round_values, round_voids, source_at};
 ghost use Rattle.refiner.specs.Making.{trit_in};
 ghost use Rattle.refiner.specs.Touched.{AreMoved};
 
-use crate::cells::{Cells, set_cells};
+use crate::cells::Cells;
 use crate::coarse::Coarse;
 use crate::comparing::is_same;
 use crate::edges::{group_end, read_labels};
@@ -50,12 +50,16 @@ fn update_one<I: Iface, L: Ledger>(
         block_at coarse.now t < coarse.now.count }
     requires cells { AreCells (I.toward iface.now) shapes.now store.now.1
         (class_below blocks.now coarse.now s x) cells.old.of.items cells.old.weights.items }
+    requires counted { AreCounted cells.old.of.items cells.old.sizes.items
+        cells.old.weights.items }
     requires group { AreEdgesBetween store.now.1 x blocks.now s edges.now }
     requires few { length edges.now < 2 ^ 26 }
     requires room { length cells.old.weights.items < 2 ^ 32 }
     requires steps_fit { steps.old ≤ 2 ^ 62 }
     ensures one_more { IfOk result (λ _.
-        length cells.new.weights.items ≡ length cells.old.weights.items + 1) }
+        length cells.new.weights.items ≤ length cells.old.weights.items + 1) }
+    ensures sizes { IfOk result (λ _. AreCounted cells.new.of.items cells.new.sizes.items
+        cells.new.weights.items) }
     ensures cells { IfOk result (λ _. AreCells (I.toward iface.now) shapes.now store.now.1
         (class_below blocks.now coarse.now s (x + 1)) cells.new.of.items
         cells.new.weights.items) }
@@ -70,16 +74,14 @@ fn update_one<I: Iface, L: Ledger>(
 {
     store.is_stored();
     read_labels(store, edges, labels)?;
-    let cell = cells.of[edges[0] as usize] as usize;
-    let new = cells.weights.len() as u32;
+    let cell = cells.of[edges[0] as usize];
     let Update { part, three, void } = iface.update(
         alloc,
         labels.as_slice(),
-        &mut cells.weights[cell],
+        &mut cells.weights[cell as usize],
         steps,
     )?;
-    cells.weights.push(part)?;
-    set_cells(&mut cells.of, edges, new);
+    cells.part(edges, cell, part)?;
     Ok((three, void))
 }
 
@@ -112,6 +114,8 @@ pub(crate) fn update_cells<I: Iface, L: Ledger>(
         block_at coarse.now t < coarse.now.count }
     requires cells { AreCells (I.toward iface.now) shapes.now store.now.1
         (λ _. block_at coarse.now) cells.old.of.items cells.old.weights.items }
+    requires counted { AreCounted cells.old.of.items cells.old.sizes.items
+        cells.old.weights.items }
     requires edges { AreEdgesWithin store.now.1 blocks.now s edges.now }
     requires few { length edges.now < 2 ^ 26 }
     requires room { length cells.old.weights.items + length edges.now ≤ 2 ^ 32 }
@@ -120,6 +124,8 @@ pub(crate) fn update_cells<I: Iface, L: Ledger>(
         length cells.new.weights.items ≤ length cells.old.weights.items + length edges.now) }
     ensures cells { IfOk result (λ _. AreCells (I.toward iface.now) shapes.now store.now.1
         (class_after blocks.now coarse.now s) cells.new.of.items cells.new.weights.items) }
+    ensures sizes { IfOk result (λ _. AreCounted cells.new.of.items cells.new.sizes.items
+        cells.new.weights.items) }
     ensures moved { IfOk result (λ _. AreMoved
         (round_values (I.value iface.now) (system_from 0 shapes.now store.now.1)
         (trit_in blocks.now coarse.now s c))

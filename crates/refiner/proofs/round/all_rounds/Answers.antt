@@ -45,6 +45,7 @@ loop-x-init g c =
       rise = omega arith;
       counted = omega (arith, none);
       cells = c.requires.cells;
+      sizes = c.requires.counted;
       few_cells = omega (arith, c.requires.few_cells);
     }
 
@@ -246,6 +247,7 @@ loop-x-preserved g c =
       rise = omega (arith, c.in_ok-numbers.ensures.rise, c.loop-x.invariant.rise);
       counted = omega (arith, next, c.in_ok-numbers.ensures.counted, c.loop-x.invariant.counted);
       cells = c.in_ok-numbers.ensures.cells;
+      sizes = c.in_ok-numbers.ensures.sizes;
       few_cells = omega (arith, c.in_ok-numbers.ensures.few_more, c.loop-x.invariant.few_cells);
     }
 

@@ -1,7 +1,7 @@
 use Rattle.std.proofs.Common.{◌≡◌, ◌+◌, ◌-◌, ◌≤◌, ◌^◌, List, [], length}
 use Rattle.refinable_partition.specs.Blocks.{block_at}
 use Rattle.sorted_systems.specs.Systems.{system_from}
-use Rattle.refiner.specs.Cells.{AreCells, scanned}
+use Rattle.refiner.specs.Cells.{AreCells, AreCounted, scanned}
 use Rattle.refiner.specs.History.{Moment}
 use Rattle.refiner.specs.Making.{LeadsTo}
 use Rattle.refiner.specs.Ready.{IsReady, moment_at}
@@ -22,6 +22,7 @@ invariant-loop-x g l = record {
   counted : l.labels ≡ scanned l.progress.scans.items l.store.1;
   cells : AreCells (g.I.Iface.toward l.iface) l.shapes l.store.1 (λ _. block_at l.progress.coarse)
       l.cells.of.items l.cells.weights.items;
+  sizes : AreCounted l.cells.of.items l.cells.sizes.items l.cells.weights.items;
   few_cells : length l.cells.weights.items ≤ 2 ^ 26 + l.labels;
 }
 

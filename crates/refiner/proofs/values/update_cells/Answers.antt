@@ -34,6 +34,7 @@ loop-from-init g c =
       in_range = omega arith;
       few_more = omega arith;
       rise = omega arith;
+      sizes = c.requires.counted;
       updating = (
         0,
         rw c.clear.ensures.items (updated_none toward shapes E p q s edges c.requires.edges all
@@ -184,6 +185,7 @@ loop-from-preserved g c =
         many,
         c.group_end-to.ensures.later,
       );
+      sizes = c.in_ok-three.ensures.sizes;
       updating = (
         x + 1,
         stays toward shapes E p q s edges c.requires.edges all voids untouched rises
@@ -255,6 +257,7 @@ loop-from-preserved-in_ok-push g c =
         many,
         c.group_end-to.ensures.later,
       );
+      sizes = c.in_ok-three.ensures.sizes;
       updating = (
         x + 1,
         rw c.in_ok-push.ensures.items (leaves toward shapes E p q s edges c.requires.edges all voids

@@ -1,12 +1,12 @@
-use Rattle.std.proofs.Common.{◌≡◌, ◌<◌, ◌∙◌, [], ◌∷◌, ◌++◌, length, map, get_or, set, ℕ, ap, subst, arith}
+use Rattle.std.proofs.Common.{◌≡◌, ◌<◌, ◌∙◌, length, map, get_or, set, ℕ, ap, sym, subst, arith}
 use Rattle.std.specs.Prelude.{All}
 use Rattle.std.proofs.lemmas.List.{get_or_read}
 use Rattle.edge_store.specs.declared.edge.Edge.{Edge}
 use Rattle.edge_store.specs.Edges.{labels_of, labels_from, targets_from}
 use Rattle.refinable_partition.specs.Blocks.{states_of}
-use Rattle.refiner.specs.Cells.{target_at}
+use Rattle.refiner.specs.Cells.{IsParted, target_at}
 use Rattle.refiner.specs.Making.{trit_in}
-use Rattle.refiner.proofs.CellsStep.{cells_step}
+use Rattle.refiner.proofs.CellsStep.{cells_step, same_cell}
 use Rattle.refiner.proofs.Keeps.{length-map}
 use Rattle.refiner.proofs.OneSource.{length-labels_at, cell_of, source_low, target_low}
 use Rattle.refiner.proofs.RoundMade.{state_at}
@@ -26,9 +26,9 @@ update-requires-clause-cell g c =
     let low : (e : ℕ) → e < length E → target_at E e < states_of p = λ e he.
     (let t = target_low E c.args.store.now.0 e c.is_stored.ensures.targets_in he in
     omega (arith, t, c.requires.in_blocks)) in
-    let k : c.index.result.now ≡ get_or cells first 0 =
-    get_or_read cells first c.index.result.now
-    (omega (arith, first_is.0, c.requires.cells.one_each)) c.index.ensures 0 in
+    let k : c.index-cell.result.now ≡ get_or cells first 0 =
+    get_or_read cells first c.index-cell.result.now
+    (omega (arith, first_is.0, c.requires.cells.one_each)) c.index-cell.ensures 0 in
     let hx : x < length c.args.shapes.now =
     (let t = source_low E c.args.store.now.0 first c.is_stored.ensures.sources_in first_is.0 in
     omega (arith, t, first_is.1, c.requires.one_shape)) in
@@ -41,7 +41,7 @@ update-requires-clause-cell g c =
           c.requires.system p q c.args.s c.args.c x group c.requires.group
           (λ e he. c.requires.in_range (target_at E e) (low e he))
           (λ e he b. c.requires.within (target_at E e) (low e he) b) cells weights c.requires.cells
-          c.index.result.now c.index_mut.result.now c.as_slice.result.now here.0 here.1 k
+          c.index-cell.result.now c.index_mut.result.now c.as_slice.result.now here.0 here.1 k
           c.index_mut.ensures.value (c.as_slice.ensures.value ∙ c.in_ok-read_labels.ensures)),
     )
 
@@ -58,6 +58,33 @@ update-requires-clause-few g c =
       c.requires.few,
     )
 
+-- the edges of the group have the cell of the first
+pub part-requires-clause-each : goal.part-requires-clause-each
+part-requires-clause-each g c =
+    let E = c.args.store.now.1 in
+    let p = c.args.blocks.now in
+    let q = c.args.coarse.now in
+    let group = c.args.edges.now in
+    let cells = c.args.cells.now.of.items in
+    let first = get_or group 0 0 in
+    let first_is = c.requires.group.each 0 0 c.requires.group.some in
+    let low : (e : ℕ) → e < length E → target_at E e < states_of p = λ e he.
+    (let t = target_low E c.args.store.now.0 e c.is_stored.ensures.targets_in he in
+    omega (arith, t, c.requires.in_blocks)) in
+    let k : c.index-cell.result.now ≡ get_or cells first 0 =
+    get_or_read cells first c.index-cell.result.now
+    (omega (arith, first_is.0, c.requires.cells.one_each)) c.index-cell.ensures 0 in
+    λ i d h.
+    (let e = c.requires.group.each i d h in (
+      omega (arith, e.0, c.requires.cells.one_each),
+      same_cell (g.I.Iface.toward c.args.iface.now) c.args.shapes.now E p q c.args.s c.args.c
+          c.args.x group c.requires.group
+          (λ e he. c.requires.in_range (target_at E e) (low e he))
+          (λ e he b. c.requires.within (target_at E e) (low e he) b) cells
+          c.args.cells.now.weights.items c.requires.cells (get_or group i d) e.0 e.1 e.2
+          ∙ sym k,
+    ))
+
 pub returns-clause-cells : goal.returns-clause-cells
 returns-clause-cells g c =
     let E = c.args.store.now.1 in
@@ -72,9 +99,9 @@ returns-clause-cells g c =
     let low : (e : ℕ) → e < length E → target_at E e < states_of p = λ e he.
     (let t = target_low E c.args.store.now.0 e c.is_stored.ensures.targets_in he in
     omega (arith, t, c.requires.in_blocks)) in
-    let k : c.index.result.now ≡ get_or cells first 0 =
-    get_or_read cells first c.index.result.now
-    (omega (arith, first_is.0, c.requires.cells.one_each)) c.index.ensures 0 in
+    let k : c.index-cell.result.now ≡ get_or cells first 0 =
+    get_or_read cells first c.index-cell.result.now
+    (omega (arith, first_is.0, c.requires.cells.one_each)) c.index-cell.ensures 0 in
     let hx : x < length c.args.shapes.now =
     (let t = source_low E c.args.store.now.0 first c.is_stored.ensures.sources_in first_is.0 in
     omega (arith, t, first_is.1, c.requires.one_shape)) in
@@ -86,21 +113,19 @@ returns-clause-cells g c =
     c.requires.system p q c.args.s c.args.c x group c.requires.group
     (λ e he. c.requires.in_range (target_at E e) (low e he))
     (λ e he b. c.requires.within (target_at E e) (low e he) b) cells weights c.requires.cells
-    c.index.result.now c.index_mut.result.now c.as_slice.result.now here.0 here.1 k
+    c.index-cell.result.now c.index_mut.result.now c.as_slice.result.now here.0 here.1 k
     c.index_mut.ensures.value (c.as_slice.ensures.value ∙ c.in_ok-read_labels.ensures)) in
+    let parted = subst
+    (λ j. IsParted cells (set weights j c.update.new.weight) group c.in_ok-part.field-0.part
+    c.in_ok-part-2.ensures.parted.0 c.part.new.self.of.items c.part.new.self.weights.items) k
+    c.in_ok-part-2.ensures.parted.1 in
     cells_step (g.I.Iface.toward c.args.iface.now) c.args.shapes.now E p q c.args.s c.args.c x group
     c.requires.group
     (λ e he. c.requires.in_range (target_at E e) (low e he))
     (λ e he b. c.requires.within (target_at E e) (low e he) b) cells weights c.requires.cells
-    c.set_cells.new.cells.items c.push.new.self.items c.update.new.weight c.in_ok-part.field-0.part
-    here.0
-    here.1 c.set_cells.ensures.len
-    (subst (λ n. All (λ e. get_or c.set_cells.new.cells.items e 0 ≡ n) group)
-    (let n : c.len-new.result ≡ length weights = omega arith in n) c.set_cells.ensures.moved)
-    c.set_cells.ensures.others updated.rest_is
+    c.part.new.self.of.items c.part.new.self.weights.items c.update.new.weight
+    c.in_ok-part.field-0.part here.0 here.1 c.in_ok-part-2.ensures.parted.0 parted updated.rest_is
     updated.part_is
-    (c.in_ok-push.ensures.items
-    ∙ ap (λ j. set weights j c.update.new.weight ++ c.in_ok-part.field-0.part ∷ []) k)
 
 pub returns-clause-three : goal.returns-clause-three
 returns-clause-three g c = λ shape at.
@@ -116,9 +141,9 @@ returns-clause-three g c = λ shape at.
     let low : (e : ℕ) → e < length E → target_at E e < states_of p = λ e he.
     (let t = target_low E c.args.store.now.0 e c.is_stored.ensures.targets_in he in
     omega (arith, t, c.requires.in_blocks)) in
-    let k : c.index.result.now ≡ get_or cells first 0 =
-    get_or_read cells first c.index.result.now
-    (omega (arith, first_is.0, c.requires.cells.one_each)) c.index.ensures 0 in
+    let k : c.index-cell.result.now ≡ get_or cells first 0 =
+    get_or_read cells first c.index-cell.result.now
+    (omega (arith, first_is.0, c.requires.cells.one_each)) c.index-cell.ensures 0 in
     (c.in_ok-part.ensures.updated shape (labels_from E x)
     (map (trit_in p q c.args.s c.args.c) (targets_from E x))
     (cell_of (g.I.Iface.node c.args.iface.now) (g.I.Iface.kin c.args.iface.now)
@@ -126,7 +151,7 @@ returns-clause-three g c = λ shape at.
     c.requires.system p q c.args.s c.args.c x group c.requires.group
     (λ e he. c.requires.in_range (target_at E e) (low e he))
     (λ e he b. c.requires.within (target_at E e) (low e he) b) cells weights c.requires.cells
-    c.index.result.now c.index_mut.result.now c.as_slice.result.now shape at k
+    c.index-cell.result.now c.index_mut.result.now c.as_slice.result.now shape at k
     c.index_mut.ensures.value (c.as_slice.ensures.value ∙ c.in_ok-read_labels.ensures))).three_is
 
 pub returns-clause-void : goal.returns-clause-void
@@ -143,9 +168,9 @@ returns-clause-void g c = λ shape at.
     let low : (e : ℕ) → e < length E → target_at E e < states_of p = λ e he.
     (let t = target_low E c.args.store.now.0 e c.is_stored.ensures.targets_in he in
     omega (arith, t, c.requires.in_blocks)) in
-    let k : c.index.result.now ≡ get_or cells first 0 =
-    get_or_read cells first c.index.result.now
-    (omega (arith, first_is.0, c.requires.cells.one_each)) c.index.ensures 0 in
+    let k : c.index-cell.result.now ≡ get_or cells first 0 =
+    get_or_read cells first c.index-cell.result.now
+    (omega (arith, first_is.0, c.requires.cells.one_each)) c.index-cell.ensures 0 in
     (c.in_ok-part.ensures.updated shape (labels_from E x)
     (map (trit_in p q c.args.s c.args.c) (targets_from E x))
     (cell_of (g.I.Iface.node c.args.iface.now) (g.I.Iface.kin c.args.iface.now)
@@ -153,7 +178,7 @@ returns-clause-void g c = λ shape at.
     c.requires.system p q c.args.s c.args.c x group c.requires.group
     (λ e he. c.requires.in_range (target_at E e) (low e he))
     (λ e he b. c.requires.within (target_at E e) (low e he) b) cells weights c.requires.cells
-    c.index.result.now c.index_mut.result.now c.as_slice.result.now shape at k
+    c.index-cell.result.now c.index_mut.result.now c.as_slice.result.now shape at k
     c.index_mut.ensures.value (c.as_slice.ensures.value ∙ c.in_ok-read_labels.ensures))).void_is
 
 pub returns-clause-counted : goal.returns-clause-counted

@@ -43,13 +43,13 @@ invariant_of-self-2 c =
     let size = size_read of sizes c.push.new.self.items c.args.c many c.index_mut.result.now
     c.self.invariant live c.in_ok-push.ensures.items c.index_mut.ensures.value in
     let new : c.len-new.result ≡ length sizes = omega arith in
-    let left : HaveLeft c.args.c c.len-new.result many of c.give_coarse.new.of.items =
-    c.give_coarse.ensures.counted c.args.c (λ e. omega (arith, e, live, new)) of_c in
+    let left : HaveLeft c.args.c c.len-new.result many of c.renumber.new.of.items =
+    c.renumber.ensures.counted c.args.c (λ e. omega (arith, e, live, new)) of_c in
     rw c.in_ok-push.ensures.items
-    (sized_after of sizes c.give_coarse.new.of.items c.args.c many
+    (sized_after of sizes c.renumber.new.of.items c.args.c many
     (c.index_mut.result.now - many) c.self.invariant live c.requires.some proper
-    (omega (arith, size, proper)) c.give_coarse.ensures.len
-    (λ x. subst (λ n. (get_or c.give_coarse.new.of.items x 0 ≡ n)
-    ⊎ (get_or c.give_coarse.new.of.items x 0 ≡ get_or of x 0)) new
-    (c.give_coarse.ensures.either x))
-    (subst (λ n. HaveLeft c.args.c n many of c.give_coarse.new.of.items) new left))
+    (omega (arith, size, proper)) c.renumber.ensures.len
+    (λ x. subst (λ n. (get_or c.renumber.new.of.items x 0 ≡ n)
+    ⊎ (get_or c.renumber.new.of.items x 0 ≡ get_or of x 0)) new
+    (c.renumber.ensures.either x))
+    (subst (λ n. HaveLeft c.args.c n many of c.renumber.new.of.items) new left))
