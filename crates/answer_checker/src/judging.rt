@@ -64,7 +64,8 @@ fn judge(
     ensures right { IfOk result (IsRightWhenYes (content_of c.now)
         (lines_seen c.now.names blocks.now)) }
 {
-    let (_nodes, _formulas) = (c.term.len(), dag.len());
+    c.term.is_term();
+    dag.is_dag();
     let places = places_in(alloc, &c.names, blocks)?;
     if let Some(reason) = first_not_once(places.as_slice()) {
         return Ok(Verdict::No(reason));

@@ -57,11 +57,11 @@ module _ (c : Content) (s : System) (desorted : IsDesorted c.term c.values c.den
       sym far
       ∙ ap (sum_by (λ (a : Sorted AnyShape AnyLabel). f a.targets)) (sym desorted.system) ∙ near
 
-  each_sorted : length occurrences ≡ s.edges.0
+  each_sorted : length occurrences ≡ s.store.states
   each_sorted =
       sym (length-map occurrences (sorted_of c.term)) ∙ ap length (sym desorted.system)
       ∙ length-map (packed_system s) _
-      ∙ length-system 0 s.shapes.items s.edges.1 ∙ s.one_shape
+      ∙ length-system 0 s.shapes.items s.store.edges ∙ s.one_shape
 
   module _ (r : Answer) (refined : IsRefined s r) where
     pub great : IsGreatestStable any_agree (sorted_system c.term occurrences) r.block_of
@@ -86,22 +86,22 @@ module _ (c : Content) (s : System) (desorted : IsDesorted c.term c.values c.den
         (any_value s.iface.denominator) (packed_system s) r refined.first refined.later
         refined.legal))
 
-    module _ (sources : All (λ x. x < s.edges.0) (sources_of s.edges.1)) where
-      below : All (λ x. x < length s.shapes.items) (sources_of s.edges.1)
-      below = subst (λ n. All (λ x. x < n) (sources_of s.edges.1)) (sym s.one_shape) sources
+    module _ (sources : All (λ x. x < s.store.states) (sources_of s.store.edges)) where
+      below : All (λ x. x < length s.shapes.items) (sources_of s.store.edges)
+      below = subst (λ n. All (λ x. x < n) (sources_of s.store.edges)) (sym s.one_shape) sources
 
       by_states : (f : ℕ → ℕ) →
           sum_by (λ (o : Occurrence). sum_by f o.targets) occurrences
-          ≡ sum_by (λ (e : Edge ℕ). f e.target) s.edges.1
-      by_states f = over (sum_by f) ∙ by_source ℕ ℕ f s.shapes.items s.edges.1 below
+          ≡ sum_by (λ (e : Edge ℕ). f e.target) s.store.edges
+      by_states f = over (sum_by f) ∙ by_source ℕ ℕ f s.shapes.items s.store.edges below
 
-      each_edge : edges_of occurrences ≡ length s.edges.1
-      each_edge = sym (ones_of_targets occurrences) ∙ by_states (λ y. 1) ∙ sum_by-one s.edges.1
+      each_edge : edges_of occurrences ≡ length s.store.edges
+      each_edge = sym (ones_of_targets occurrences) ∙ by_states (λ y. 1) ∙ sum_by-one s.store.edges
 
-      scans_same : scans_of_targets r.scans occurrences ≡ scanned r.scans s.edges.1
+      scans_same : scans_of_targets r.scans occurrences ≡ scanned r.scans s.store.edges
       scans_same = by_states (λ y. slice_index r.scans y)
 
-      pub counted : IsCounted c s.edges.0 (length s.edges.1) r.labels
+      pub counted : IsCounted c s.store.states (length s.store.edges) r.labels
       counted = record {
         occurrences = occurrences;
         answer = r;
@@ -116,7 +116,7 @@ module _ (c : Content) (s : System) (desorted : IsDesorted c.term c.values c.den
         halves = refined.halves;
         greatest = great;
         labels = refl;
-        count = refined.labels ∙ ap (λ k. length s.edges.1 + k) (sym scans_same);
+        count = refined.labels ∙ ap (λ k. length s.store.edges + k) (sym scans_same);
         scans = refined.scans;
         few = refined.few;
       }

@@ -41,7 +41,7 @@ pub record IsRefined (s : System) (r : Answer) : Type 0 where
       (label_of s.iface.shapes.items s.iface.weights.items) (any_value s.iface.denominator))
       (packed_system s) r first later
   pub halves : AreHalves first later r.rounds
-  pub scans : (y : ℕ) → y < s.edges.0 → 2 ^ slice_index r.scans y ≤ s.edges.0
-  pub labels : r.labels ≡ length s.edges.1 + scanned r.scans s.edges.1
+  pub scans : (y : ℕ) → y < s.store.states → 2 ^ slice_index r.scans y ≤ s.store.states
+  pub labels : r.labels ≡ length s.store.edges + scanned r.scans s.store.edges
   pub few :
-      (k : ℕ) → s.edges.0 < 2 ^ (k + 1) → r.labels ≤ length s.edges.1 * (1 + k)
+      (k : ℕ) → s.store.states < 2 ^ (k + 1) → r.labels ≤ length s.store.edges * (1 + k)

@@ -78,11 +78,11 @@ pub fn first_equivalents<L: Ledger>(
 {
     let found = refinement_of(alloc, c, steps)?;
     let firsts = firsts_of(alloc, c, &found)?;
-    let edges = found.system.edges();
+    let store = found.system.store();
     Ok(Equivalents {
         firsts,
         sorted: found.system.sorted(),
-        edges: edges.len(),
+        edges: store.len(),
         labels: found.refined.labels(),
     })
 }

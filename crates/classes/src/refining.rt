@@ -36,8 +36,8 @@ fn refined_states<L: Ledger>(
     ensures grows { steps.old ≤ steps.new }
 {
     let shapes = system.shapes();
-    let edges = system.edges();
-    let refined = refine(alloc, system.iface(), shapes, edges, steps)?;
+    let store = system.store();
+    let refined = refine(alloc, system.iface(), shapes, store, steps)?;
     Ok(refined)
 }
 
@@ -52,16 +52,16 @@ pub fn refinement_of<L: Ledger>(
     ensures desorted { IfOk result (λ found.
         IsDesorted c.now.term c.now.values.items c.now.denominator found.system) }
     ensures refined { IfOk result (λ found. IsRefined found.system found.refined) }
-    ensures counted { IfOk result (λ found. IsCounted (content_of c.now) found.system.edges.0
-        (length found.system.edges.1) found.refined.labels) }
+    ensures counted { IfOk result (λ found. IsCounted (content_of c.now) found.system.store.states
+        (length found.system.store.edges) found.refined.labels) }
     ensures rise { IfOk result (λ found. steps.new ≡ steps.old + found.refined.labels) }
     ensures grows { steps.old ≤ steps.new }
 {
     sorted_states_are_a_system();
     c.term.is_term();
     let system = desort(alloc, c)?;
-    let edges = system.edges();
-    let _sources = edges.states();
+    let store = system.store();
+    store.is_stored();
     let refined = refined_states(alloc, &system, steps)?;
     Ok(Refinement { system, refined })
 }

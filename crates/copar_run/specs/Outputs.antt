@@ -45,7 +45,7 @@ pub record IsFound (c : Content) (found : Refinement) : Type 0 where
   pub desorted : IsDesorted c.term c.values c.denominator found.system
   pub refined : IsRefined found.system found.refined
   pub counted :
-      IsCountedAs c found.system.edges.0 (length found.system.edges.1) found.refined.labels
+      IsCountedAs c found.system.store.states (length found.system.store.edges) found.refined.labels
 
 -- the line of statistics, if it is wanted: the numbers of sorted states, edges and steps
 abbrev pub stats_part : Bool → Content → ℕ → List ℕ

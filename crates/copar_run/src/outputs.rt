@@ -135,11 +135,11 @@ fn with_stats(
         ++ stats_part stats (content_of c.now) found.now.refined.labels) }
 {
     if stats {
-        let edges = found.system.edges();
+        let store = found.system.store();
         let line = stats_line(
             alloc,
             found.system.sorted(),
-            edges.len(),
+            store.len(),
             found.refined.labels(),
         )?;
         text.extend_from_slice(line.as_slice())?;
@@ -182,14 +182,14 @@ fn summarised(
         output.items) }
 {
     let firsts = firsts_of(alloc, c, found)?;
-    let edges = found.system.edges();
+    let store = found.system.store();
     let labels = found.refined.labels();
     trial_summary(
         alloc,
         kind,
         firsts.as_slice(),
         found.system.sorted(),
-        edges.len(),
+        store.len(),
         labels,
     )
 }
@@ -208,8 +208,9 @@ fn minimised(alloc: Global, c: &Coalgebra, found: &Refinement) -> Result<Vec<u8>
     rescaling_keeps_form();
     let labels = classes(alloc, c, found)?;
     let d = quotient(alloc, c, labels.as_slice())?;
-    // a term and names are what they are
-    let (_nodes, _names) = (d.term.len(), d.names.len());
+    d.term.is_term();
+    // names are what they are
+    let _names = d.names.len();
     quotient_text(alloc, &d)
 }
 

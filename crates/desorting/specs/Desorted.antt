@@ -16,7 +16,7 @@ use Rattle.desorting.specs.Shapes.{sorted_system}
 
 -- the sorted states, where shapes and labels are numbers in the tables of the interface
 abbrev pub packed_system : System → List (Sorted ℕ ℕ)
-packed_system s = system_from 0 s.shapes.items s.edges.1
+packed_system s = system_from 0 s.shapes.items s.store.edges
 
 -- the sorted states with the shapes and labels that the numbers stand for
 abbrev pub read_system : System → List (Sorted AnyShape AnyLabel)
@@ -33,7 +33,7 @@ pub record IsDesorted (t : Nodes) (values : List Value) (d : ℕ) (s : System) :
   pub fit :
       (x : ℕ) (a : Sorted ℕ ℕ) → IsState (packed_system s) x a →
       fits_layer s.iface.shapes.items s.iface.weights.items a.shape a.labels
-  pub sorted : s.edges.0 ≡ sorted_count t values
-  pub edges : length s.edges.1 ≡ edge_count t values
+  pub sorted : s.store.states ≡ sorted_count t values
+  pub edges : length s.store.edges ≡ edge_count t values
   pub states : s.states ≡ length values
   pub denominator : s.iface.denominator ≡ d

@@ -28,12 +28,12 @@ pub fn desort(alloc: Global, c: &Coalgebra) -> Result<System, AllocError>
     let mut table = LayerTable::new(alloc);
     let Numbers { shapes, labels } = numbered(alloc, &c.term, &places, targets.len(), &mut table)?;
     let count = places.len() as u32;
-    let edges = EdgeStore::of_arrays(alloc, count, sources, labels, targets)?;
+    let store = EdgeStore::of_arrays(alloc, count, sources, labels, targets)?;
     let iface = table.finish(alloc, c.denominator)?;
     Ok(System {
         iface,
         shapes,
-        edges,
+        store,
         states,
     })
 }

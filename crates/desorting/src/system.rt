@@ -14,19 +14,19 @@ use layers::Layers;
 pub struct System {
     pub(crate) iface: Layers,
     pub(crate) shapes: Vec<u32>,
-    pub(crate) edges: EdgeStore<u32>,
+    pub(crate) store: EdgeStore<u32>,
     pub(crate) states: u32,
-    ghost one_shape: { length shapes.items ≡ edges.0 },
-    ghost few: { edges.0 < 2 ^ 26 },
+    ghost one_shape: { length shapes.items ≡ store.states },
+    ghost few: { store.states < 2 ^ 26 },
 }
 
 impl System {
     /// How many sorted states there are.
     pub fn sorted(&self) -> u32
-        ensures count { result ≡ self.now.edges.0 }
+        ensures count { result ≡ self.now.store.states }
         ensures few { result < 2 ^ 26 }
     {
-        self.edges.states()
+        self.store.states()
     }
 
     /// The interface of all shapes.
@@ -39,21 +39,21 @@ impl System {
     /// The shape of each sorted state.
     pub fn shapes(&self) -> &[u32]
         ensures shapes { result.now ≡ self.now.shapes.items }
-        ensures one_each { length result.now ≡ self.now.edges.0 }
+        ensures one_each { length result.now ≡ self.now.store.states }
     {
         self.shapes.as_slice()
     }
 
     /// The edges between sorted states.
-    pub fn edges(&self) -> &EdgeStore<u32>
-        ensures edges { result.now ≡ self.now.edges }
+    pub fn store(&self) -> &EdgeStore<u32>
+        ensures store { result.now ≡ self.now.store }
     {
-        &self.edges
+        &self.store
     }
 
     /// The functor node of a sorted state.
     pub fn node_of(&self, u: u32) -> u32
-        requires { u < self.now.edges.0 }
+        requires { u < self.now.store.states }
         ensures node { (s : ℕ) → slice_get self.now.shapes.items u ≡ Some s →
             result ≡ any_node (shape_of self.now.iface.shapes.items s) }
     {

@@ -13,10 +13,10 @@ const LONGEST: usize = 67_108_864;
 
 /// The sizes of a system and its edges in order, each as its source and its target.
 fn listed(alloc: Global, system: &System) -> Result<String, AllocError> {
-    let edges = system.edges();
-    let mut text = format!(in alloc; "{} {}", system.sorted(), edges.len())?;
-    for e in 0..edges.len() {
-        text.push_str(format!(in alloc; " {}-{}", edges.source(e), edges.target(e))?.as_str())?;
+    let store = system.store();
+    let mut text = format!(in alloc; "{} {}", system.sorted(), store.len())?;
+    for e in 0..store.len() {
+        text.push_str(format!(in alloc; " {}-{}", store.source(e), store.target(e))?.as_str())?;
     }
     Ok(text)
 }

@@ -2,7 +2,7 @@
 use Rattle.std.proofs.Common.{◌≡◌, ◌<◌, ℕ, suc, List, [], ◌∷◌, length, zero-add, refl, sym, ◌∙◌, ap, subst, arith}
 use Rattle.std.specs.Prelude.{Contains}
 use Rattle.edge_store.specs.declared.edge.Edge.{Edge}
-use Rattle.edge_store.specs.Edges.{sources_of, labels_of, targets_of, edges_into, AreEdgesInto}
+use Rattle.edge_store.specs.Edges.{Graph, sources_of, labels_of, targets_of, edges_into, AreEdgesInto}
 use Rattle.edge_store.specs.Stored.{edges_of, IsStored}
 use Rattle.edge_store.proofs.Places.{places_each, places_every, places_ascend}
 
@@ -48,55 +48,55 @@ edges_of_parts (e ∷ es) = ap (λ xs. e ∷ xs) (edges_of_parts es)
 
 -- the arrays show these states and edges
 pub record Show {Label : Type 0} (n : ℕ) (s : List ℕ) (l : List Label) (t : List ℕ)
-    (seen : ℕ × List (Edge Label)) : Type 0 where
-  pub states : seen.0 ≡ n
-  pub edges : length seen.1 ≡ length s
-  pub sources : sources_of seen.1 ≡ s
-  pub labels : labels_of seen.1 ≡ l
-  pub targets : targets_of seen.1 ≡ t
+    (seen : Graph Label) : Type 0 where
+  pub states : seen.states ≡ n
+  pub edges : length seen.edges ≡ length s
+  pub sources : sources_of seen.edges ≡ s
+  pub labels : labels_of seen.edges ≡ l
+  pub targets : targets_of seen.edges ≡ t
 
 pub shown : {Label : Type 0} {n : ℕ} {s : List ℕ} {l : List Label} {t from into numbers : List ℕ}
-    {seen : ℕ × List (Edge Label)} → IsStored n s l t from into numbers →
-    ◌≡◌ {A = ℕ × List (Edge Label)} (n, edges_of s l t) seen → Show n s l t seen
+    {seen : Graph Label} → IsStored n s l t from into numbers →
+    ◌≡◌ {A = Graph Label} (record { states = n; edges = edges_of s l t }) seen → Show n s l t seen
 shown {Label = Label} {s = s} {l = l} {t = t} stored is = record {
-  states = ap (λ (v : ℕ × List (Edge Label)). v.0) (sym is);
+  states = ap (λ (v : Graph Label). v.states) (sym is);
   edges =
-      ap (λ (v : ℕ × List (Edge Label)). length v.1) (sym is)
+      ap (λ (v : Graph Label). length v.edges) (sym is)
       ∙ length-edges_of s l t stored.labels_len stored.targets_len;
   sources =
-      ap (λ (v : ℕ × List (Edge Label)). sources_of v.1) (sym is)
+      ap (λ (v : Graph Label). sources_of v.edges) (sym is)
       ∙ sources-edges_of s l t stored.labels_len stored.targets_len;
   labels =
-      ap (λ (v : ℕ × List (Edge Label)). labels_of v.1) (sym is)
+      ap (λ (v : Graph Label). labels_of v.edges) (sym is)
       ∙ labels-edges_of s l t stored.labels_len stored.targets_len;
   targets =
-      ap (λ (v : ℕ × List (Edge Label)). targets_of v.1) (sym is)
+      ap (λ (v : Graph Label). targets_of v.edges) (sym is)
       ∙ targets-edges_of s l t stored.labels_len stored.targets_len;
 }
 
 -- a state that is seen is one of the arrays
 pub state_in : {Label : Type 0} {n x : ℕ} {s : List ℕ} {l : List Label} {t : List ℕ}
-    {seen : ℕ × List (Edge Label)} → Show n s l t seen → x < seen.0 → x < n
+    {seen : Graph Label} → Show n s l t seen → x < seen.states → x < n
 state_in {x = x} show h = subst (λ k. x < k) show.states h
 
 -- and so is an edge
 pub edge_in : {Label : Type 0} {n e : ℕ} {s : List ℕ} {l : List Label} {t : List ℕ}
-    {seen : ℕ × List (Edge Label)} → Show n s l t seen → e < length seen.1 → e < length s
+    {seen : Graph Label} → Show n s l t seen → e < length seen.edges → e < length s
 edge_in {e = e} show h = subst (λ k. e < k) show.edges h
 
 -- the places of a target are exactly the edges into it
 pub places_exact : {Label : Type 0} {n : ℕ} {s : List ℕ} {l : List Label} {t : List ℕ}
-    {seen : ℕ × List (Edge Label)} (y : ℕ) → Show n s l t seen → length t ≡ length s →
-    AreEdgesInto seen.1 y (edges_into seen.1 y)
+    {seen : Graph Label} (y : ℕ) → Show n s l t seen → length t ≡ length s →
+    AreEdgesInto seen.edges y (edges_into seen.edges y)
 places_exact {seen = seen} y show len =
-    let same : length (targets_of seen.1) ≡ length seen.1 =
+    let same : length (targets_of seen.edges) ≡ length seen.edges =
     ap length show.targets ∙ len ∙ sym show.edges in
     record {
       each = λ k d h. (
-          let here = places_each y (targets_of seen.1) k d h in
+          let here = places_each y (targets_of seen.edges) k d h in
           (omega (arith, here.0, same), here.1));
       every = λ e he at.
-          subst (λ n. Contains (edges_into seen.1 y) n) (zero-add e)
-          (places_every 0 y e (targets_of seen.1) (omega (arith, same)) at);
-      ascending = places_ascend 0 y (targets_of seen.1);
+          subst (λ n. Contains (edges_into seen.edges y) n) (zero-add e)
+          (places_every 0 y e (targets_of seen.edges) (omega (arith, same)) at);
+      ascending = places_ascend 0 y (targets_of seen.edges);
     }

@@ -3,6 +3,11 @@
 use Rattle.std.specs.Prelude.{◌≡◌, ◌+◌, ◌<◌, ◌==◌, if◌then◌else◌, nat_lt, ℕ, List, [], ◌∷◌, length, slice_index, map, count_by, All, AllPairs, Contains}
 use Rattle.edge_store.specs.declared.edge.Edge.{Edge}
 
+-- states, counted from 0, and the edges between them in order
+pub record Graph (Label : Type 0) : Type 0 where
+  pub states : ℕ
+  pub edges : List (Edge Label)
+
 -- the sources of edges, in order
 abbrev pub sources_of : {Label : Type 0} → List (Edge Label) → List ℕ
 sources_of edges = map (λ e. e.source) edges

@@ -24,10 +24,10 @@ impl<A: Copy> EdgeStore<A> {
         requires ascending { AllPairs (λ a b. a ≤ b) sources.items }
         requires sources_in { All (λ s. s < n) sources.items }
         requires targets_in { All (λ t. t < n) targets.items }
-        ensures states { IfOk result (λ s. s.0 ≡ n) }
-        ensures sources { IfOk result (λ s. sources_of s.1 ≡ sources.items) }
-        ensures labels { IfOk result (λ s. labels_of s.1 ≡ labels.items) }
-        ensures targets { IfOk result (λ s. targets_of s.1 ≡ targets.items) }
+        ensures states { IfOk result (λ s. s.states ≡ n) }
+        ensures sources { IfOk result (λ s. sources_of s.edges ≡ sources.items) }
+        ensures labels { IfOk result (λ s. labels_of s.edges ≡ labels.items) }
+        ensures targets { IfOk result (λ s. targets_of s.edges ≡ targets.items) }
     {
         let from = starts(alloc, n, sources.as_slice())?;
         let into = starts(alloc, n, targets.as_slice())?;

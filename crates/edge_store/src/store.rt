@@ -24,13 +24,15 @@ pub struct EdgeStore<A: Copy> {
 }
 
 impl<A: Copy> Model for EdgeStore<A> {
-    ghost use Rattle.std.specs.Prelude.{ℕ, List};
-    ghost use Rattle.edge_store.specs.declared.edge.Edge.{Edge};
+    ghost use Rattle.edge_store.specs.Edges.{Graph};
     ghost use Rattle.edge_store.specs.Stored.{IsStored, edges_of};
 
-    ghost Value = { ℕ × List (Edge A) };
+    ghost Value = { Graph A };
 
-    ghost view = { λ s. (s.count, edges_of s.sources.items s.labels.items s.targets.items) };
+    ghost view = { λ s. record {
+      states = s.count;
+      edges = edges_of s.sources.items s.labels.items s.targets.items;
+    } };
 
     ghost invariant = { λ s. IsStored s.count s.sources.items s.labels.items s.targets.items
         s.from.items s.into.items s.numbers.items };
@@ -63,8 +65,8 @@ impl<A: Copy> EdgeStore<A> {
         requires ascending { AllPairs (λ a b. a ≤ b) (sources_of edges.items) }
         requires sources_in { All (λ s. s < n) (sources_of edges.items) }
         requires targets_in { All (λ t. t < n) (targets_of edges.items) }
-        ensures states { IfOk result (λ s. s.0 ≡ n) }
-        ensures edges { IfOk result (λ s. s.1 ≡ edges.items) }
+        ensures states { IfOk result (λ s. s.states ≡ n) }
+        ensures edges { IfOk result (λ s. s.edges ≡ edges.items) }
     {
         let sources = sources(alloc, edges.as_slice())?;
         let labels = labels(alloc, edges.as_slice())?;
@@ -85,47 +87,42 @@ impl<A: Copy> EdgeStore<A> {
 
     /// What holds of every store. Nothing is read or done.
     pub fn is_stored(&self)
-        ensures few { length self.now.1 < 2 ^ 26 }
-        ensures ascending { AllPairs (λ a b. a ≤ b) (sources_of self.now.1) }
-        ensures sources_in { All (λ s. s < self.now.0) (sources_of self.now.1) }
-        ensures targets_in { All (λ t. t < self.now.0) (targets_of self.now.1) }
-        ensures none { first_of self.now.1 0 ≡ 0 }
-        ensures all { first_of self.now.1 self.now.0 ≡ length self.now.1 }
+        ensures few { length self.now.edges < 2 ^ 26 }
+        ensures ascending { AllPairs (λ a b. a ≤ b) (sources_of self.now.edges) }
+        ensures sources_in { All (λ s. s < self.now.states) (sources_of self.now.edges) }
+        ensures targets_in { All (λ t. t < self.now.states) (targets_of self.now.edges) }
+        ensures none { first_of self.now.edges 0 ≡ 0 }
+        ensures all { first_of self.now.edges self.now.states ≡ length self.now.edges }
     {
         let _count = &self.count;
     }
 
     /// How many edges there are.
     pub fn len(&self) -> u32
-        ensures edges { result ≡ length self.now.1 }
+        ensures edges { result ≡ length self.now.edges }
         ensures few { result < 2 ^ 26 }
-        ensures none { first_of self.now.1 0 ≡ 0 }
-        ensures all { first_of self.now.1 self.now.0 ≡ result }
-        ensures ascending { AllPairs (λ a b. a ≤ b) (sources_of self.now.1) }
     {
         self.sources.len() as u32
     }
 
     /// How many states there are.
     pub fn states(&self) -> u32
-        ensures states { result ≡ self.now.0 }
-        ensures sources_in { All (λ s. s < result) (sources_of self.now.1) }
-        ensures targets_in { All (λ t. t < result) (targets_of self.now.1) }
+        ensures states { result ≡ self.now.states }
     {
         self.count
     }
 
     /// All labels, in the order of the edges.
     pub fn labels(&self) -> &[A]
-        ensures labels { result.now ≡ labels_of self.now.1 }
+        ensures labels { result.now ≡ labels_of self.now.edges }
     {
         self.labels.as_slice()
     }
 
     /// The labels of the edges from state x, in order.
     pub fn from_state(&self, x: u32) -> &[A]
-        requires { x < self.now.0 }
-        ensures labels { result.now ≡ labels_from self.now.1 x }
+        requires { x < self.now.states }
+        ensures labels { result.now ≡ labels_from self.now.edges x }
         ensures few { length result.now < 2 ^ 26 }
     {
         let from = self.from[x as usize] as usize;
@@ -136,29 +133,31 @@ impl<A: Copy> EdgeStore<A> {
     /// The place in `labels` where the labels from state x begin. So it is the number of the first
     /// edge from x, where x has one.
     pub fn first_from(&self, x: u32) -> u32
-        requires { x < self.now.0 }
-        ensures first { result ≡ first_of self.now.1 x }
-        ensures labels { slice_range (labels_of self.now.1) result
-            (result + length (labels_from self.now.1 x))
-            ≡ labels_from self.now.1 x }
-        ensures targets { slice_range (targets_of self.now.1) result
-            (result + length (targets_from self.now.1 x))
-            ≡ targets_from self.now.1 x }
-        ensures edges { (e : ℕ) → e < length self.now.1 →
-            (slice_index (sources_of self.now.1) e ≡ x)
-            ↔ ((result ≤ e) × (e < result + length (labels_from self.now.1 x))) }
-        ensures as_many { length (targets_from self.now.1 x) ≡ length (labels_from self.now.1 x) }
-        ensures next { first_of self.now.1 (x + 1) ≡ result + length (labels_from self.now.1 x) }
-        ensures within { result + length (targets_from self.now.1 x) ≤ length self.now.1 }
+        requires { x < self.now.states }
+        ensures first { result ≡ first_of self.now.edges x }
+        ensures labels { slice_range (labels_of self.now.edges) result
+            (result + length (labels_from self.now.edges x))
+            ≡ labels_from self.now.edges x }
+        ensures targets { slice_range (targets_of self.now.edges) result
+            (result + length (targets_from self.now.edges x))
+            ≡ targets_from self.now.edges x }
+        ensures edges { (e : ℕ) → e < length self.now.edges →
+            (slice_index (sources_of self.now.edges) e ≡ x)
+            ↔ ((result ≤ e) × (e < result + length (labels_from self.now.edges x))) }
+        ensures as_many { length (targets_from self.now.edges x)
+            ≡ length (labels_from self.now.edges x) }
+        ensures next { first_of self.now.edges (x + 1)
+            ≡ result + length (labels_from self.now.edges x) }
+        ensures within { result + length (targets_from self.now.edges x) ≤ length self.now.edges }
     {
         self.from[x as usize]
     }
 
     /// The numbers of the edges into state y, ascending.
     pub fn into_state(&self, y: u32) -> &[u32]
-        requires { y < self.now.0 }
-        ensures edges { result.now ≡ edges_into self.now.1 y }
-        ensures exact { AreEdgesInto self.now.1 y result.now }
+        requires { y < self.now.states }
+        ensures edges { result.now ≡ edges_into self.now.edges y }
+        ensures exact { AreEdgesInto self.now.edges y result.now }
         ensures few { length result.now < 2 ^ 26 }
     {
         let from = self.into[y as usize] as usize;
@@ -168,26 +167,26 @@ impl<A: Copy> EdgeStore<A> {
 
     /// The source of edge e.
     pub fn source(&self, e: u32) -> u32
-        requires { e < length self.now.1 }
-        ensures source { result ≡ slice_index (sources_of self.now.1) e }
-        ensures in_range { result < self.now.0 }
+        requires { e < length self.now.edges }
+        ensures source { result ≡ slice_index (sources_of self.now.edges) e }
+        ensures in_range { result < self.now.states }
     {
         self.sources[e as usize]
     }
 
     /// The target of edge e.
     pub fn target(&self, e: u32) -> u32
-        requires { e < length self.now.1 }
-        ensures target { result ≡ slice_index (targets_of self.now.1) e }
-        ensures in_range { result < self.now.0 }
+        requires { e < length self.now.edges }
+        ensures target { result ≡ slice_index (targets_of self.now.edges) e }
+        ensures in_range { result < self.now.states }
     {
         self.targets[e as usize]
     }
 
     /// The label of edge e.
     pub fn label(&self, e: u32) -> &A
-        requires { e < length self.now.1 }
-        ensures label { (d : A) → result.now ≡ slice_index_or (labels_of self.now.1) e d }
+        requires { e < length self.now.edges }
+        ensures label { (d : A) → result.now ≡ slice_index_or (labels_of self.now.edges) e d }
     {
         &self.labels[e as usize]
     }

@@ -100,13 +100,13 @@ pub fn build<I: Iface>(
     refined: &Refined,
 ) -> Result<Certificates, AllocError>
     requires system { IsSystem (I.node iface.now) (I.kin iface.now) (I.fits iface.now)
-        (system_from 0 shapes.now store.now.1) }
+        (system_from 0 shapes.now store.now.edges) }
     requires few_states { length shapes.now < 2 ^ 26 }
     requires legal { (first : Moment) × (later : List Moment) ×
-        IsLegal (I.node iface.now) (I.value iface.now) (system_from 0 shapes.now store.now.1)
+        IsLegal (I.node iface.now) (I.value iface.now) (system_from 0 shapes.now store.now.edges)
         refined.now first later }
     ensures told { IfOk result (λ c. BlocksAreTold (I.node iface.now) (I.value iface.now)
-        (system_from 0 shapes.now store.now.1) c.dag c.blocks c.block_of) }
+        (system_from 0 shapes.now store.now.edges) c.dag c.blocks c.block_of) }
     ensures few { IfOk result (λ c. length c.dag ≤ 6 * length shapes.now + 1) }
     ensures same_blocks { IfOk result (λ c. c.block_of ≡ refined.now.block_of) }
 {

@@ -3,8 +3,8 @@ ghost use Rattle.std.specs.Prelude.{◌≡◌, ◌<◌, ◌==◌, ◌^◌, IfOk,
 ghost use Rattle.layers.specs.Bits.{powers, trits_of};
 ghost use Rattle.polynomial_iface.specs.Polys.{arity, value_of_form};
 
-use modalities::Three;
-use polynomial_iface::{Form, value_at};
+use modalities::{Three, TritList};
+use polynomial_iface::Form;
 use std::alloc::{AllocError, Global};
 
 /// A number of 64 bits has one for each place of the form.
@@ -63,6 +63,14 @@ pub(crate) fn value_by_bits(
 ) -> Result<Three, AllocError>
     ensures { IfOk result (λ x. x ≡ value_of_form form (trits_of (arity form) ones twos)) }
 {
-    let found = trits(alloc, form.places(), ones, twos)?;
-    Ok(value_at(form, found))
+    let trit = trit_at(twos % 2 == 1, ones % 2 == 1);
+    match form {
+        Form::Constant(label) => Ok(Three::Label(label)),
+        Form::Identity => Ok(Three::Trit(trit)),
+        Form::Tagged(index) => Ok(Three::Tagged(index, trit)),
+        Form::Places(count) => {
+            let found = trits(alloc, count, ones, twos)?;
+            Ok(Three::Trits(TritList::from_vec(found)))
+        }
+    }
 }

@@ -13,6 +13,7 @@ pub(crate) fn is_same(a: &Three, b: &Three) -> bool
     match (a, b) {
         (Three::Label(m), Three::Label(n)) => m == n,
         (Three::Members(m), Three::Members(n)) => m == n,
+        (Three::Tagged(i, t), Three::Tagged(j, u)) => i == j && t == u,
         (Three::Trits(m), Three::Trits(n)) => m.as_slice() == n.as_slice(),
         _ => *a == *b,
     }
@@ -25,6 +26,7 @@ pub(crate) fn compare(a: &Three, b: &Three) -> Ordering
     match (a, b) {
         (Three::Label(m), Three::Label(n)) => m.cmp(n),
         (Three::Members(m), Three::Members(n)) => m.cmp(n),
+        (Three::Tagged(i, t), Three::Tagged(j, u)) => i.cmp(j).then(t.cmp(u)),
         (Three::Trits(m), Three::Trits(n)) => m.as_slice().cmp(n.as_slice()),
         _ => a.cmp(b),
     }

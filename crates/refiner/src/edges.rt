@@ -17,11 +17,11 @@ fn edges_by_target<A: Copy>(
     found: &mut Vec<u32>,
 ) -> Result<(), AllocError>
     requires live { s < blocks.now.count }
-    requires states { states_of blocks.now ≡ store.now.0 }
-    ensures each { IfOk result (λ _. All (λ e. (e < length store.now.1)
-        × (block_at blocks.now (target_at store.now.1 e) ≡ s)) found.new.items) }
-    ensures every { IfOk result (λ _. (e : ℕ) → e < length store.now.1 →
-        block_at blocks.now (target_at store.now.1 e) ≡ s → Contains found.new.items e) }
+    requires states { states_of blocks.now ≡ store.now.states }
+    ensures each { IfOk result (λ _. All (λ e. (e < length store.now.edges)
+        × (block_at blocks.now (target_at store.now.edges e) ≡ s)) found.new.items) }
+    ensures every { IfOk result (λ _. (e : ℕ) → e < length store.now.edges →
+        block_at blocks.now (target_at store.now.edges e) ≡ s → Contains found.new.items e) }
     ensures apart { IfOk result (λ _. AllPairs (λ d e. d ≢ e) found.new.items) }
 {
     store.is_stored();
@@ -41,8 +41,8 @@ pub(crate) fn edges_within<A: Copy>(
     found: &mut Vec<u32>,
 ) -> Result<(), AllocError>
     requires live { s < blocks.now.count }
-    requires states { states_of blocks.now ≡ store.now.0 }
-    ensures { IfOk result (λ _. AreEdgesWithin store.now.1 blocks.now s found.new.items) }
+    requires states { states_of blocks.now ≡ store.now.states }
+    ensures { IfOk result (λ _. AreEdgesWithin store.now.edges blocks.now s found.new.items) }
 {
     edges_by_target(store, blocks, s, found)?;
     found.sort_unstable();
@@ -52,15 +52,15 @@ pub(crate) fn edges_within<A: Copy>(
 /// The end of the run of one source that begins at a place.
 pub(crate) fn group_end<A: Copy>(store: &EdgeStore<A>, edges: &[u32], from: usize) -> usize
     requires place { from < length edges.now }
-    requires in_range { All (λ e. e < length store.now.1) edges.now }
+    requires in_range { All (λ e. e < length store.now.edges) edges.now }
     ensures later { from < result }
     ensures within { result ≤ length edges.now }
     ensures alike { (k : ℕ) → from ≤ k → k < result →
-        source_at store.now.1 (slice_index edges.now k)
-        ≡ source_at store.now.1 (slice_index edges.now from) }
+        source_at store.now.edges (slice_index edges.now k)
+        ≡ source_at store.now.edges (slice_index edges.now from) }
     ensures other { result < length edges.now →
-        source_at store.now.1 (slice_index edges.now result)
-        ≢ source_at store.now.1 (slice_index edges.now from) }
+        source_at store.now.edges (slice_index edges.now result)
+        ≢ source_at store.now.edges (slice_index edges.now from) }
 {
     let x = store.source(edges[from]);
     for k in from + 1..edges.len() {
@@ -77,8 +77,9 @@ pub(crate) fn read_labels<A: Copy>(
     edges: &[u32],
     labels: &mut Vec<A>,
 ) -> Result<(), AllocError>
-    requires in_range { All (λ e. e < length store.now.1) edges.now }
-    ensures { IfOk result (λ _. labels.new.items ≡ labels_at (labels_of store.now.1) edges.now) }
+    requires in_range { All (λ e. e < length store.now.edges) edges.now }
+    ensures { IfOk result (λ _.
+        labels.new.items ≡ labels_at (labels_of store.now.edges) edges.now) }
 {
     labels.clear();
     for e in edges {

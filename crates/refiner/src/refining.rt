@@ -46,25 +46,26 @@ pub fn refine<I: Iface, L: Ledger>(
     store: &EdgeStore<I::Label>,
     steps: &mut Steps<L>,
 ) -> Result<Refined, AllocError>
-    requires few_states { store.now.0 < 2 ^ 26 }
-    requires one_shape { length shapes.now ≡ store.now.0 }
+    requires few_states { store.now.states < 2 ^ 26 }
+    requires one_shape { length shapes.now ≡ store.now.states }
     requires system { IsSystem (I.node iface.now) (I.kin iface.now) (I.fits iface.now)
-        (system_from 0 shapes.now store.now.1) }
+        (system_from 0 shapes.now store.now.edges) }
     requires steps_fit { steps.old ≤ 2 ^ 61 }
     ensures greatest { IfOk result (λ r. IsGreatestStable (I.agree iface.now)
-        (system_from 0 shapes.now store.now.1) r.block_of) }
+        (system_from 0 shapes.now store.now.edges) r.block_of) }
     ensures legal { IfOk result (λ r. (first : Moment) × (later : List Moment) ×
-        IsLegal (I.node iface.now) (I.value iface.now) (system_from 0 shapes.now store.now.1)
+        IsLegal (I.node iface.now) (I.value iface.now) (system_from 0 shapes.now store.now.edges)
         r first later × AreHalves first later r.rounds) }
-    ensures scans { IfOk result (λ r. (y : ℕ) → y < store.now.0 →
-        2 ^ slice_index r.scans y ≤ store.now.0) }
+    ensures scans { IfOk result (λ r. (y : ℕ) → y < store.now.states →
+        2 ^ slice_index r.scans y ≤ store.now.states) }
     ensures rise { IfOk result (λ r. steps.new ≡ steps.old + r.labels) }
     ensures labels { IfOk result (λ r.
-        r.labels ≡ length store.now.1 + scanned r.scans store.now.1) }
-    ensures few_labels { IfOk result (λ r. (k : ℕ) → store.now.0 < 2 ^ (k + 1) →
-        r.labels ≤ length store.now.1 * (1 + k)) }
+        r.labels ≡ length store.now.edges + scanned r.scans store.now.edges) }
+    ensures few_labels { IfOk result (λ r. (k : ℕ) → store.now.states < 2 ^ (k + 1) →
+        r.labels ≤ length store.now.edges * (1 + k)) }
     ensures grows { steps.old ≤ steps.new }
 {
+    store.is_stored();
     let n = store.states();
     let edges = store.len();
     let (values, weights) = first_values(alloc, iface, shapes, store, steps)?;

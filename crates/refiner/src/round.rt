@@ -41,17 +41,17 @@ fn one_round<I: Iface, L: Ledger>(
     x: u32,
     steps: &mut Steps<L>,
 ) -> Result<(Numbers, u64), AllocError>
-    requires one_shape { length shapes.now ≡ store.now.0 }
+    requires one_shape { length shapes.now ≡ store.now.states }
     requires system { IsSystem (I.node iface.now) (I.kin iface.now) (I.fits iface.now)
-        (system_from 0 shapes.now store.now.1) }
+        (system_from 0 shapes.now store.now.edges) }
     requires small { number < 2 ^ 26 }
     requires steps_fit { steps.old ≤ 2 ^ 61 + 2 ^ 59 }
-    requires ready { IsReady store.now.0 number progress.old }
+    requires ready { IsReady store.now.states number progress.old }
     requires nested { AreNested progress.old.blocks progress.old.coarse }
     requires torn { (y : ℕ) × AreTorn progress.old.blocks progress.old.coarse x y }
-    requires agreeing { AreAgreeing (I.agree iface.now) (system_from 0 shapes.now store.now.1)
+    requires agreeing { AreAgreeing (I.agree iface.now) (system_from 0 shapes.now store.now.edges)
         (moment_at progress.old) }
-    requires cells { AreCells (I.toward iface.now) shapes.now store.now.1
+    requires cells { AreCells (I.toward iface.now) shapes.now store.now.edges
         (λ _. block_at progress.old.coarse) cells.old.of.items cells.old.weights.items }
     requires counted { AreCounted cells.old.of.items cells.old.sizes.items
         cells.old.weights.items }
@@ -59,21 +59,21 @@ fn one_round<I: Iface, L: Ledger>(
     requires begins { history.old.splits ≡ [] }
     ensures rounds { IfOk result (λ _. history.new.rounds ≡ history.old.rounds) }
     ensures round { IfOk result (λ r. IsRound (I.node iface.now) (I.value iface.now)
-        (system_from 0 shapes.now store.now.1) number (moment_at progress.old)
+        (system_from 0 shapes.now store.now.edges) number (moment_at progress.old)
         (moment_at progress.new) (round_with r.0 history.new.splits)) }
-    ensures ready { IfOk result (λ _. IsReady store.now.0 (number + 1) progress.new) }
+    ensures ready { IfOk result (λ _. IsReady store.now.states (number + 1) progress.new) }
     ensures splitter { IfOk result (λ r. r.0.splitter ≡ block_at progress.old.blocks x) }
     ensures left { IfOk result (λ r. r.0.coarse
         ≡ slice_index progress.old.numbers.items (block_at progress.old.coarse x)) }
     ensures one_more { IfOk result (λ _.
         progress.new.coarse.count ≡ progress.old.coarse.count + 1) }
-    ensures scans { IfOk result (λ r. (z : ℕ) → z < store.now.0 →
+    ensures scans { IfOk result (λ r. (z : ℕ) → z < store.now.states →
         slice_index progress.new.scans.items z ≡ slice_index progress.old.scans.items z
         + (if block_at progress.old.blocks z == r.0.splitter then 1 else 0)) }
     ensures rise { IfOk result (λ r. steps.new ≡ steps.old + r.1) }
     ensures counted { IfOk result (λ r.
-        r.1 ≡ many_into progress.old.blocks r.0.splitter store.now.1) }
-    ensures cells { IfOk result (λ _. AreCells (I.toward iface.now) shapes.now store.now.1
+        r.1 ≡ many_into progress.old.blocks r.0.splitter store.now.edges) }
+    ensures cells { IfOk result (λ _. AreCells (I.toward iface.now) shapes.now store.now.edges
         (λ _. block_at progress.new.coarse) cells.new.of.items cells.new.weights.items) }
     ensures sizes { IfOk result (λ _. AreCounted cells.new.of.items cells.new.sizes.items
         cells.new.weights.items) }
@@ -138,30 +138,30 @@ pub(crate) fn all_rounds<I: Iface, L: Ledger>(
     cells: &mut Cells<I::Weight>,
     steps: &mut Steps<L>,
 ) -> Result<(History, u64), AllocError>
-    requires one_shape { length shapes.now ≡ store.now.0 }
+    requires one_shape { length shapes.now ≡ store.now.states }
     requires system { IsSystem (I.node iface.now) (I.kin iface.now) (I.fits iface.now)
-        (system_from 0 shapes.now store.now.1) }
-    requires few_edges { length store.now.1 < 2 ^ 26 }
-    requires few_states { store.now.0 < 2 ^ 26 }
+        (system_from 0 shapes.now store.now.edges) }
+    requires few_edges { length store.now.edges < 2 ^ 26 }
+    requires few_states { store.now.states < 2 ^ 26 }
     requires steps_fit { steps.old ≤ 2 ^ 61 + 2 ^ 58 }
-    requires ready { IsReady store.now.0 0 progress.old }
+    requires ready { IsReady store.now.states 0 progress.old }
     requires starts { (start : List Start) × IsStart (I.node iface.now) (I.value iface.now)
-        (system_from 0 shapes.now store.now.1) start (moment_at progress.old) }
-    requires cells { AreCells (I.toward iface.now) shapes.now store.now.1
+        (system_from 0 shapes.now store.now.edges) start (moment_at progress.old) }
+    requires cells { AreCells (I.toward iface.now) shapes.now store.now.edges
         (λ _. block_at progress.old.coarse) cells.old.of.items cells.old.weights.items }
     requires counted { AreCounted cells.old.of.items cells.old.sizes.items
         cells.old.weights.items }
     requires few_cells { length cells.old.weights.items ≤ 2 ^ 26 }
     ensures history { IfOk result (λ r. (later : List Moment) ×
-        LeadsTo (I.node iface.now) (I.value iface.now) (system_from 0 shapes.now store.now.1)
+        LeadsTo (I.node iface.now) (I.value iface.now) (system_from 0 shapes.now store.now.edges)
         (moment_at progress.old) later r.0.rounds (moment_at progress.new)
         progress.new.scans.items) }
     ensures greatest { IfOk result (λ _. IsGreatestStable (I.agree iface.now)
-        (system_from 0 shapes.now store.now.1) progress.new.blocks.block) }
-    ensures states { IfOk result (λ _. states_of progress.new.blocks ≡ store.now.0) }
-    ensures one_scan { IfOk result (λ _. length progress.new.scans.items ≡ store.now.0) }
+        (system_from 0 shapes.now store.now.edges) progress.new.blocks.block) }
+    ensures states { IfOk result (λ _. states_of progress.new.blocks ≡ store.now.states) }
+    ensures one_scan { IfOk result (λ _. length progress.new.scans.items ≡ store.now.states) }
     ensures rise { IfOk result (λ r. steps.new ≡ steps.old + r.1) }
-    ensures counted { IfOk result (λ r. r.1 ≡ scanned progress.new.scans.items store.now.1) }
+    ensures counted { IfOk result (λ r. r.1 ≡ scanned progress.new.scans.items store.now.edges) }
     ensures grows { steps.old ≤ steps.new }
 {
     store.is_stored();

@@ -28,15 +28,15 @@ pub(crate) fn first_values<I: Iface, L: Ledger>(
     store: &EdgeStore<I::Label>,
     steps: &mut Steps<L>,
 ) -> Result<(Vec<Three>, Vec<I::Weight>), AllocError>
-    requires one_shape { length shapes.now ≡ store.now.0 }
+    requires one_shape { length shapes.now ≡ store.now.states }
     requires system { IsSystem (I.node iface.now) (I.kin iface.now) (I.fits iface.now)
-        (system_from 0 shapes.now store.now.1) }
+        (system_from 0 shapes.now store.now.edges) }
     requires steps_fit { steps.old ≤ 2 ^ 61 + 2 ^ 59 }
     ensures values { IfOk result (λ r. AreValues (I.value iface.now)
-        (system_from 0 shapes.now store.now.1) (λ _. 2) r.0.items) }
-    ensures weights { IfOk result (λ r. AreWhole (I.toward iface.now) shapes.now store.now.1
-        store.now.0 r.1.items) }
-    ensures rise { IfOk result (λ _. steps.new ≡ steps.old + length store.now.1) }
+        (system_from 0 shapes.now store.now.edges) (λ _. 2) r.0.items) }
+    ensures weights { IfOk result (λ r. AreWhole (I.toward iface.now) shapes.now store.now.edges
+        store.now.states r.1.items) }
+    ensures rise { IfOk result (λ _. steps.new ≡ steps.old + length store.now.edges) }
     ensures grows { steps.old ≤ steps.new }
 {
     store.is_stored();
@@ -58,7 +58,7 @@ pub(crate) fn edge_sources<A: Copy>(
     alloc: Global,
     store: &EdgeStore<A>,
 ) -> Result<Vec<u32>, AllocError>
-    ensures { IfOk result (λ v. v.items ≡ sources_of store.now.1) }
+    ensures { IfOk result (λ v. v.items ≡ sources_of store.now.edges) }
 {
     let mut found = Vec::with_capacity(alloc, store.len() as usize)?;
     for e in 0..store.len() {
@@ -72,9 +72,9 @@ pub(crate) fn edge_counts<A: Copy>(
     alloc: Global,
     store: &EdgeStore<A>,
 ) -> Result<Vec<u32>, AllocError>
-    ensures one_each { IfOk result (λ v. length v.items ≡ store.now.0) }
-    ensures counts { IfOk result (λ v. (x : ℕ) → x < store.now.0 →
-        slice_index v.items x ≡ size_in (sources_of store.now.1) x) }
+    ensures one_each { IfOk result (λ v. length v.items ≡ store.now.states) }
+    ensures counts { IfOk result (λ v. (x : ℕ) → x < store.now.states →
+        slice_index v.items x ≡ size_in (sources_of store.now.edges) x) }
 {
     let mut found = Vec::with_capacity(alloc, store.states() as usize)?;
     for x in 0..store.states() {
@@ -108,15 +108,15 @@ fn starts_of<I: Iface>(
     blocks: &Partition,
     values: &[Three],
 ) -> Result<Vec<Start>, AllocError>
-    requires one_shape { length shapes.now ≡ store.now.0 }
-    requires in_blocks { states_of blocks.now ≡ store.now.0 }
-    requires values { AreValues (I.value iface.now) (system_from 0 shapes.now store.now.1) (λ _. 2)
-        values.now }
-    requires split { AreByNodeAndValue (I.node iface.now) (system_from 0 shapes.now store.now.1)
+    requires one_shape { length shapes.now ≡ store.now.states }
+    requires in_blocks { states_of blocks.now ≡ store.now.states }
+    requires values { AreValues (I.value iface.now) (system_from 0 shapes.now store.now.edges)
+        (λ _. 2) values.now }
+    requires split { AreByNodeAndValue (I.node iface.now) (system_from 0 shapes.now store.now.edges)
         values.now blocks.now }
     ensures { IfOk result (λ start. IsStart (I.node iface.now) (I.value iface.now)
-        (system_from 0 shapes.now store.now.1) start.items
-        (first_moment (system_from 0 shapes.now store.now.1) blocks.now)) }
+        (system_from 0 shapes.now store.now.edges) start.items
+        (first_moment (system_from 0 shapes.now store.now.edges) blocks.now)) }
 {
     let mut start = Vec::new(alloc);
     for block in 0..blocks.blocks() {
@@ -137,15 +137,15 @@ pub(crate) fn start_blocks<I: Iface>(
     blocks: &mut Partition,
     values: &[Three],
 ) -> Result<Vec<Start>, AllocError>
-    requires one_shape { length shapes.now ≡ store.now.0 }
-    requires in_blocks { states_of blocks.old ≡ store.now.0 }
-    requires values { AreValues (I.value iface.now) (system_from 0 shapes.now store.now.1) (λ _. 2)
-        values.now }
+    requires one_shape { length shapes.now ≡ store.now.states }
+    requires in_blocks { states_of blocks.old ≡ store.now.states }
+    requires values { AreValues (I.value iface.now) (system_from 0 shapes.now store.now.edges)
+        (λ _. 2) values.now }
     requires one_block { (x : ℕ) → x < states_of blocks.old → block_at blocks.old x ≡ 0 }
     requires unmarked { IsUnmarked blocks.old }
     ensures start { IfOk result (λ start. IsStart (I.node iface.now) (I.value iface.now)
-        (system_from 0 shapes.now store.now.1) start.items
-        (first_moment (system_from 0 shapes.now store.now.1) blocks.new)) }
+        (system_from 0 shapes.now store.now.edges) start.items
+        (first_moment (system_from 0 shapes.now store.now.edges) blocks.new)) }
     ensures unmarked { IfOk result (λ _. IsUnmarked blocks.new) }
     ensures states { IfOk result (λ _. states_of blocks.new ≡ states_of blocks.old) }
     ensures in_range { IfOk result (λ _. (x : ℕ) → x < states_of blocks.new →

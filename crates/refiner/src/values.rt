@@ -39,20 +39,20 @@ fn update_one<I: Iface, L: Ledger>(
     cells: &mut Cells<I::Weight>,
     steps: &mut Steps<L>,
 ) -> Result<(Three, Three), AllocError>
-    requires one_shape { length shapes.now ≡ store.now.0 }
+    requires one_shape { length shapes.now ≡ store.now.states }
     requires system { IsSystem (I.node iface.now) (I.kin iface.now) (I.fits iface.now)
-        (system_from 0 shapes.now store.now.1) }
+        (system_from 0 shapes.now store.now.edges) }
     requires within { (t : ℕ) → t < states_of blocks.now → block_at blocks.now t ≡ s →
         block_at coarse.now t ≡ c }
-    requires in_blocks { states_of blocks.now ≡ store.now.0 }
-    requires in_coarse { states_of coarse.now ≡ store.now.0 }
+    requires in_blocks { states_of blocks.now ≡ store.now.states }
+    requires in_coarse { states_of coarse.now ≡ store.now.states }
     requires in_range { (t : ℕ) → t < states_of blocks.now →
         block_at coarse.now t < coarse.now.count }
-    requires cells { AreCells (I.toward iface.now) shapes.now store.now.1
+    requires cells { AreCells (I.toward iface.now) shapes.now store.now.edges
         (class_below blocks.now coarse.now s x) cells.old.of.items cells.old.weights.items }
     requires counted { AreCounted cells.old.of.items cells.old.sizes.items
         cells.old.weights.items }
-    requires group { AreEdgesBetween store.now.1 x blocks.now s edges.now }
+    requires group { AreEdgesBetween store.now.edges x blocks.now s edges.now }
     requires few { length edges.now < 2 ^ 26 }
     requires room { length cells.old.weights.items < 2 ^ 32 }
     requires steps_fit { steps.old ≤ 2 ^ 62 }
@@ -60,15 +60,15 @@ fn update_one<I: Iface, L: Ledger>(
         length cells.new.weights.items ≤ length cells.old.weights.items + 1) }
     ensures sizes { IfOk result (λ _. AreCounted cells.new.of.items cells.new.sizes.items
         cells.new.weights.items) }
-    ensures cells { IfOk result (λ _. AreCells (I.toward iface.now) shapes.now store.now.1
+    ensures cells { IfOk result (λ _. AreCells (I.toward iface.now) shapes.now store.now.edges
         (class_below blocks.now coarse.now s (x + 1)) cells.new.of.items
         cells.new.weights.items) }
     ensures three { IfOk result (λ r. (shape : I.Shape) → slice_get shapes.now x ≡ Some shape →
-        r.0 ≡ I.value iface.now shape (labels_from store.now.1 x)
-        (map (trit_in blocks.now coarse.now s c) (targets_from store.now.1 x))) }
+        r.0 ≡ I.value iface.now shape (labels_from store.now.edges x)
+        (map (trit_in blocks.now coarse.now s c) (targets_from store.now.edges x))) }
     ensures void { IfOk result (λ r. (shape : I.Shape) → slice_get shapes.now x ≡ Some shape →
-        r.1 ≡ I.value iface.now shape (labels_from store.now.1 x) (without_splitter
-        (map (trit_in blocks.now coarse.now s c) (targets_from store.now.1 x)))) }
+        r.1 ≡ I.value iface.now shape (labels_from store.now.edges x) (without_splitter
+        (map (trit_in blocks.now coarse.now s c) (targets_from store.now.edges x)))) }
     ensures counted { IfOk result (λ _. steps.new ≡ steps.old + length edges.now) }
     ensures grows { steps.old ≤ steps.new }
 {
@@ -103,33 +103,33 @@ pub(crate) fn update_cells<I: Iface, L: Ledger>(
     moved: &mut Vec<Moved>,
     steps: &mut Steps<L>,
 ) -> Result<(), AllocError>
-    requires one_shape { length shapes.now ≡ store.now.0 }
+    requires one_shape { length shapes.now ≡ store.now.states }
     requires system { IsSystem (I.node iface.now) (I.kin iface.now) (I.fits iface.now)
-        (system_from 0 shapes.now store.now.1) }
+        (system_from 0 shapes.now store.now.edges) }
     requires within { (t : ℕ) → t < states_of blocks.now → block_at blocks.now t ≡ s →
         block_at coarse.now t ≡ c }
-    requires in_blocks { states_of blocks.now ≡ store.now.0 }
-    requires in_coarse { states_of coarse.now ≡ store.now.0 }
+    requires in_blocks { states_of blocks.now ≡ store.now.states }
+    requires in_coarse { states_of coarse.now ≡ store.now.states }
     requires in_range { (t : ℕ) → t < states_of blocks.now →
         block_at coarse.now t < coarse.now.count }
-    requires cells { AreCells (I.toward iface.now) shapes.now store.now.1
+    requires cells { AreCells (I.toward iface.now) shapes.now store.now.edges
         (λ _. block_at coarse.now) cells.old.of.items cells.old.weights.items }
     requires counted { AreCounted cells.old.of.items cells.old.sizes.items
         cells.old.weights.items }
-    requires edges { AreEdgesWithin store.now.1 blocks.now s edges.now }
+    requires edges { AreEdgesWithin store.now.edges blocks.now s edges.now }
     requires few { length edges.now < 2 ^ 26 }
     requires room { length cells.old.weights.items + length edges.now ≤ 2 ^ 32 }
     requires steps_fit { steps.old ≤ 2 ^ 61 + 2 ^ 59 }
     ensures few_more { IfOk result (λ _.
         length cells.new.weights.items ≤ length cells.old.weights.items + length edges.now) }
-    ensures cells { IfOk result (λ _. AreCells (I.toward iface.now) shapes.now store.now.1
+    ensures cells { IfOk result (λ _. AreCells (I.toward iface.now) shapes.now store.now.edges
         (class_after blocks.now coarse.now s) cells.new.of.items cells.new.weights.items) }
     ensures sizes { IfOk result (λ _. AreCounted cells.new.of.items cells.new.sizes.items
         cells.new.weights.items) }
     ensures moved { IfOk result (λ _. AreMoved
-        (round_values (I.value iface.now) (system_from 0 shapes.now store.now.1)
+        (round_values (I.value iface.now) (system_from 0 shapes.now store.now.edges)
         (trit_in blocks.now coarse.now s c))
-        (round_voids (I.value iface.now) (system_from 0 shapes.now store.now.1)
+        (round_voids (I.value iface.now) (system_from 0 shapes.now store.now.edges)
         (trit_in blocks.now coarse.now s c)) blocks.now moved.new.items) }
     ensures counted { IfOk result (λ _. steps.new ≡ steps.old + length edges.now) }
     ensures grows { steps.old ≤ steps.new }

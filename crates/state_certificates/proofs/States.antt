@@ -15,7 +15,7 @@ use Rattle.typing.specs.Contents.{Content}
 use Rattle.typing.specs.Stable.{AreEquivalent}
 use Rattle.typing.proofs.StableLaws.{element}
 use Rattle.sorted_systems.specs.Systems.{class_in, system_from}
-use Rattle.edge_store.specs.declared.edge.Edge.{Edge}
+use Rattle.edge_store.specs.Edges.{Graph}
 use Rattle.decoding.specs.Decoded.{node_by, value_by}
 use Rattle.layers.specs.Nest.{any_node, any_value}
 use Rattle.layers.specs.Meanings.{shape_of, label_of}
@@ -36,12 +36,12 @@ use Rattle.state_certificates.specs.Certificates.{formula_of, StatesAreTold, Tel
 use Rattle.state_certificates.proofs.Alike.{node, value, Stands, state_of, standing-likeness}
 
 -- what is told over an interface, shapes and edges
-abbrev pub Told : Certified → Layers → List ℕ → ℕ × List (Edge ℕ) → Type 0
+abbrev pub Told : Certified → Layers → List ℕ → Graph ℕ → Type 0
 Told cert i ss es =
     BlocksAreTold
     (node_by (shape_of i.shapes.items) (label_of i.shapes.items i.weights.items) any_node)
     (value_by (shape_of i.shapes.items) (label_of i.shapes.items i.weights.items)
-    (any_value i.denominator)) (system_from 0 ss es.1) cert.dag cert.blocks cert.block_of
+    (any_value i.denominator)) (system_from 0 ss es.edges) cert.dag cert.blocks cert.block_of
 
 -- the numbers from a first one, one by one
 number_at : (first n i : ℕ) → i < n → slice_index (numbers_on first n) i ≡ first + i

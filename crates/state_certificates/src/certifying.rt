@@ -35,7 +35,7 @@ pub fn state_formulas(
     ensures forms { IfOk result (λ told. HaveForms c.now.term told.dag) }
     ensures fit { IfOk result (λ told. AllFit c.now.term told.dag) }
     ensures writable { IfOk result (λ told. All IsWritable told.dag) }
-    ensures few { IfOk result (λ told. length told.dag ≤ 6 * system.now.edges.0 + 1) }
+    ensures few { IfOk result (λ told. length told.dag ≤ 6 * system.now.store.states + 1) }
     ensures same_blocks { IfOk result (λ told. told.block_of ≡ refined.now.block_of) }
     ensures certificates { IfOk result (λ told. AreCertificates (content_of c.now) told) }
 {
@@ -46,8 +46,8 @@ pub fn state_formulas(
     equivalent_states_have_one_truth();
     c.term.is_term();
     let shapes = system.shapes();
-    let edges = system.edges();
-    let told = build(alloc, system.iface(), shapes, edges, refined)?;
+    let store = system.store();
+    let told = build(alloc, system.iface(), shapes, store, refined)?;
     // The formulas stand in their order.
     told.dag().is_dag();
     Ok(told)

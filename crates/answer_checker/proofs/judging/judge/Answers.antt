@@ -94,7 +94,7 @@ returns-clause-right c =
     let content : Content = content_of c.args.c.now in
     let names = c.args.c.now.names in
     let blocks : List TheBlockLine = c.args.blocks.now in
-    passing_right content c.len-nodes.ensures.term
+    passing_right content c.is_term.ensures
     (each_below content.values (length names) c.args.c.now.one_each c.args.c.now.in_range)
-    c.args.dag.now c.len-formulas.ensures.ordered (lines_seen names blocks)
+    c.args.dag.now c.is_dag.ensures.ordered (lines_seen names blocks)
     (seen_below names (length c.args.dag.now) blocks c.requires.cited) (returns-clause-verdict c)

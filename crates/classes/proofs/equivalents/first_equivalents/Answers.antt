@@ -1,6 +1,6 @@
-use Rattle.std.proofs.Common.{◌∙◌, ℕ, List, length, sym, ap}
+use Rattle.std.proofs.Common.{◌∙◌, ℕ, length, sym, ap}
 use Rattle.typing.specs.Contents.{content_of}
-use Rattle.edge_store.specs.declared.edge.Edge.{Edge}
+use Rattle.edge_store.specs.Edges.{Graph}
 use Rattle.classes.specs.Counted.{IsCounted}
 use Rattle.classes.proofs.Along.{along}
 use Rattle.classes.proofs.equivalents.first_equivalents.Goals as goal
@@ -9,5 +9,5 @@ pub returns-clause-counted : goal.returns-clause-counted
 returns-clause-counted g c =
     along (λ (a b r : ℕ). IsCounted (content_of c.args.c.now) a b r) (sym c.sorted.ensures.count)
     (sym (c.len.ensures.edges
-    ∙ ap (λ (es : ℕ × List (Edge ℕ)). length es.1) c.edges-edges.ensures.edges))
+    ∙ ap (λ (g : Graph ℕ). length g.edges) c.store-store.ensures.store))
     (sym c.labels.ensures) c.in_ok-found.ensures.counted

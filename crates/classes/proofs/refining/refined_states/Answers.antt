@@ -1,6 +1,6 @@
 use Rattle.std.proofs.Common.{◌≡◌, ◌+◌, ◌*◌, ◌<◌, ◌≤◌, ◌^◌, ℕ, List, length, sym, subst}
 use Rattle.std.specs.Prelude.{slice_index}
-use Rattle.edge_store.specs.declared.edge.Edge.{Edge}
+use Rattle.edge_store.specs.Edges.{Graph}
 use Rattle.sorted_systems.specs.Systems.{IsSystem, IsGreatestStable, system_from}
 use Rattle.refiner.specs.Cells.{scanned}
 use Rattle.refiner.specs.History.{IsLegal}
@@ -14,47 +14,47 @@ use Rattle.classes.proofs.refining.refined_states.Goals as goal
 pub refine-requires-clause-system : goal.refine-requires-clause-system
 refine-requires-clause-system g c =
     along
-    (λ (i : Layers) (ss : List ℕ) (es : ℕ × List (Edge ℕ)).
+    (λ (i : Layers) (ss : List ℕ) (es : Graph ℕ).
     IsSystem (node_by (shape_of i.shapes.items) (label_of i.shapes.items i.weights.items) any_node)
     (kin_by (shape_of i.shapes.items) (label_of i.shapes.items i.weights.items) any_kin)
-    (fits_layer i.shapes.items i.weights.items) (system_from 0 ss es.1))
+    (fits_layer i.shapes.items i.weights.items) (system_from 0 ss es.edges))
     (sym c.iface.ensures.iface) (sym c.shapes-shapes.ensures.shapes)
-    (sym c.edges-edges.ensures.edges) c.requires.system
+    (sym c.store-store.ensures.store) c.requires.system
 
 pub returns-clause-refined : goal.returns-clause-refined
 returns-clause-refined g c =
     let r = c.in_ok-refined.refined in
     let found = c.in_ok-refined.ensures in
-    let edges = c.edges-edges.ensures.edges in
+    let edges = c.store-store.ensures.store in
     let history = found.legal in
     record {
       first = history.0;
       later = history.1;
       greatest =
           along
-          (λ (i : Layers) (ss : List ℕ) (es : ℕ × List (Edge ℕ)).
+          (λ (i : Layers) (ss : List ℕ) (es : Graph ℕ).
           IsGreatestStable
           (agree_by (shape_of i.shapes.items) (label_of i.shapes.items i.weights.items) any_agree)
-          (system_from 0 ss es.1) r.block_of)
+          (system_from 0 ss es.edges) r.block_of)
           c.iface.ensures.iface c.shapes-shapes.ensures.shapes edges found.greatest;
       legal =
           along
-          (λ (i : Layers) (ss : List ℕ) (es : ℕ × List (Edge ℕ)).
+          (λ (i : Layers) (ss : List ℕ) (es : Graph ℕ).
           IsLegal
           (node_by (shape_of i.shapes.items) (label_of i.shapes.items i.weights.items) any_node)
           (value_by (shape_of i.shapes.items) (label_of i.shapes.items i.weights.items)
-          (any_value i.denominator)) (system_from 0 ss es.1) r history.0 history.1)
+          (any_value i.denominator)) (system_from 0 ss es.edges) r history.0 history.1)
           c.iface.ensures.iface c.shapes-shapes.ensures.shapes edges history.2;
       halves = history.3;
       scans =
           subst
-          (λ (es : ℕ × List (Edge ℕ)). (y : ℕ) → y < es.0 → 2 ^ slice_index r.scans y ≤ es.0)
+          (λ (es : Graph ℕ). (y : ℕ) → y < es.states → 2 ^ slice_index r.scans y ≤ es.states)
           edges found.scans;
       labels =
-          subst (λ (es : ℕ × List (Edge ℕ)). r.labels ≡ length es.1 + scanned r.scans es.1) edges
+          subst (λ (es : Graph ℕ). r.labels ≡ length es.edges + scanned r.scans es.edges) edges
           found.labels;
       few =
           subst
-          (λ (es : ℕ × List (Edge ℕ)). (k : ℕ) → es.0 < 2 ^ (k + 1) →
-          r.labels ≤ length es.1 * (1 + k)) edges found.few_labels;
+          (λ (es : Graph ℕ). (k : ℕ) → es.states < 2 ^ (k + 1) →
+          r.labels ≤ length es.edges * (1 + k)) edges found.few_labels;
     }

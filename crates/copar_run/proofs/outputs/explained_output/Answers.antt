@@ -10,7 +10,7 @@ returns-clause-prints g c =
       found.refined.labels,
       c.in_ok-found.ensures.rise,
       λ words numbered. (
-        (found.system.edges.0, length found.system.edges.1, c.in_ok-found.ensures.counted),
+        (found.system.store.states, length found.system.store.edges, c.in_ok-found.ensures.counted),
         (c.in_ok-text.text.items, c.in_ok-text.ensures words numbered, same),
       ),
     ))

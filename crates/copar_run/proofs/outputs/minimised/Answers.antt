@@ -24,7 +24,7 @@ returns c =
       states = c.rescaling_keeps_form.ensures.states;
     } in
     let formed : IsWellFormed (content_of d) = record {
-      term = c.len-nodes.ensures.term;
+      term = c.is_term.ensures;
       names = c.len-names.ensures.names;
       one_each = d.one_each;
       positive = d.positive;

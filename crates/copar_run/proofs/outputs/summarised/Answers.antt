@@ -11,13 +11,13 @@ returns c =
     let source = content_of c.args.c.now in
     let found = c.args.found.now in
     IfOk-weaker c.trial_summary.result _ _
-    (λ output text. is_summary c.args.kind source is.firsts.items found.system.edges.0
-    (length found.system.edges.1) found.refined.labels
+    (λ output text. is_summary c.args.kind source is.firsts.items found.system.store.states
+    (length found.system.store.edges) found.refined.labels
     (are_blocks source is.firsts.items is.ensures.stable is.ensures.coarsest is.ensures.first)
     c.requires.found.counted c.as_slice.result.now c.sorted.result c.len.result
     c.labels-labels.result
     c.as_slice.ensures.value c.sorted.ensures.count
-    (subst (λ s. c.len.result ≡ length s.1) c.edges-edges.ensures.edges c.len.ensures.edges)
+    (subst (λ s. c.len.result ≡ length s.edges) c.store-store.ensures.store c.len.ensures.edges)
     c.labels-labels.ensures
     output.items text)
     c.trial_summary.ensures.lines

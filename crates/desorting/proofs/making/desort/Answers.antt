@@ -20,7 +20,7 @@ pub invariant_of-result : goal.invariant_of-result
 invariant_of-result c =
     let found = c.in_ok-places.field-0 in
     let are = c.in_ok-places.ensures.structures in
-    let states = c.in_ok-edges.ensures.states ∙ c.len-count.ensures.count in
+    let states = c.in_ok-store.ensures.states ∙ c.len-count.ensures.count in
     record {
       one_shape =
           one_number c.args.c.now.term c.args.c.now.values.items found.places found.sources.items
@@ -40,7 +40,7 @@ returns c =
     let labels = c.in_ok-shapes.field-0.labels.items in
     let shapes = c.in_ok-iface.iface.shapes.items in
     let table = c.in_ok-iface.iface.weights.items in
-    let edges = c.in_ok-edges.edges.1 in
+    let edges = c.in_ok-store.store.edges in
     let numbered : AreNumbered t shapes table found.places numbers labels =
     subst (λ l. AreNumbered t l table found.places numbers labels)
     (sym c.in_ok-iface.ensures.shapes)
@@ -52,15 +52,15 @@ returns c =
         sorting = are.sorting;
         system =
             made_system t values found.places found.sources.items found.targets.items are shapes
-            table numbers labels numbered edges c.in_ok-edges.ensures.sources
-            c.in_ok-edges.ensures.labels c.in_ok-edges.ensures.targets;
+            table numbers labels numbered edges c.in_ok-store.ensures.sources
+            c.in_ok-store.ensures.labels c.in_ok-store.ensures.targets;
         fit =
             made_fit t values found.places found.sources.items found.targets.items are shapes
-            table numbers labels numbered edges c.in_ok-edges.ensures.sources
-            c.in_ok-edges.ensures.labels c.in_ok-edges.ensures.targets c.is_term.ensures;
-        sorted = c.in_ok-edges.ensures.states ∙ c.len-count.ensures.count ∙ are.sorted;
+            table numbers labels numbered edges c.in_ok-store.ensures.sources
+            c.in_ok-store.ensures.labels c.in_ok-store.ensures.targets c.is_term.ensures;
+        sorted = c.in_ok-store.ensures.states ∙ c.len-count.ensures.count ∙ are.sorted;
         edges =
-            as_many_targets edges found.targets.items c.in_ok-edges.ensures.targets ∙ are.edges;
+            as_many_targets edges found.targets.items c.in_ok-store.ensures.targets ∙ are.edges;
         states = c.len-states.ensures.count ∙ sym c.args.c.now.one_each;
         denominator = c.in_ok-iface.ensures.denominator;
       };

@@ -5,4 +5,4 @@ use Rattle.refiner.proofs.edges.group_end.Given as goal
 abbrev pub invariant-loop-k : goal.invariant-loop-k
 invariant-loop-k g l =
     (j : ℕ) → l.from ≤ j → j < l.k →
-    source_at l.store.1 (get_or l.edges j 0) ≡ source_at l.store.1 (get_or l.edges l.from 0)
+    source_at l.store.edges (get_or l.edges j 0) ≡ source_at l.store.edges (get_or l.edges l.from 0)

@@ -9,14 +9,14 @@ use Rattle.refiner.proofs.edges.read_labels.Goals as goal
 
 pub loop-e-preserved : goal.loop-e-preserved
 loop-e-preserved g c =
-    let labels = labels_of c.args.store.now.1 in
+    let labels = labels_of c.args.store.now.edges in
     let e = get_or c.args.edges.now c.loop-e.e-index 0 in
     let a = c.label.result.now in
     let h : e < length labels =
     omega (
       arith,
       c.requires.in_range c.loop-e.e-index 0 c.loop-e-test.true,
-      length-map (λ (e : Edge _). e.label) c.args.store.now.1,
+      length-map (λ (e : Edge _). e.label) c.args.store.now.edges,
     ) in
     let at : slice_get labels e ≡ Some a =
     slice_get_read labels (length labels) e a refl h (c.label.ensures.label a) in

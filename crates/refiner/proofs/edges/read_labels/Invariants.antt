@@ -5,4 +5,4 @@ use Rattle.refiner.proofs.edges.read_labels.Given as goal
 
 abbrev pub invariant-loop-e : goal.invariant-loop-e
 invariant-loop-e g l =
-    l.labels.items ≡ labels_at (labels_of l.store.1) (take l.e-index l.edges)
+    l.labels.items ≡ labels_at (labels_of l.store.edges) (take l.e-index l.edges)

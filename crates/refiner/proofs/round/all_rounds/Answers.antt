@@ -16,14 +16,14 @@ use Rattle.refiner.proofs.round.all_rounds.Goals as goal
 
 pub loop-x-init : goal.loop-x-init
 loop-x-init g c =
-    let E = c.args.store.now.1 in
+    let E = c.args.store.now.edges in
     let n = length-system_from 0 c.args.shapes.now E in
-    let zero_at : (y : ℕ) → y < c.args.store.now.0 → get_or c.args.progress.now.scans.items y 0
+    let zero_at : (y : ℕ) → y < c.args.store.now.states → get_or c.args.progress.now.scans.items y 0
     ≤ 0 =
     λ y hy. c.requires.ready.scans_small y 0 (omega (arith, hy, c.requires.ready.one_scan)) in
     let none : scanned c.args.progress.now.scans.items E ≤ length E * 0 =
     scanned_low E c.args.progress.now.scans.items 0 (λ j hj. zero_at (target_at E j)
-    (let t = target_low E c.args.store.now.0 j c.is_stored.ensures.targets_in hj in
+    (let t = target_low E c.args.store.now.states j c.is_stored.ensures.targets_in hj in
     omega (arith, t))) in
     record {
       history = (
@@ -51,7 +51,7 @@ loop-x-init g c =
 
 pub find_half-requires-clause-nested : goal.find_half-requires-clause-nested
 find_half-requires-clause-nested g c =
-    let E = c.args.store.now.1 in
+    let E = c.args.store.now.edges in
     let system = system_from 0 c.args.shapes.now E in
     let n = length-system_from 0 c.args.shapes.now E in
     let p = c.loop-x.progress in
@@ -67,7 +67,7 @@ find_half-requires-clause-nested g c =
 
 pub one_round-requires-clause-nested : goal.one_round-requires-clause-nested
 one_round-requires-clause-nested g c =
-    let E = c.args.store.now.1 in
+    let E = c.args.store.now.edges in
     let system = system_from 0 c.args.shapes.now E in
     let n = length-system_from 0 c.args.shapes.now E in
     let p = c.loop-x.progress in
@@ -90,7 +90,7 @@ one_round-requires-clause-torn g c =
 
 pub one_round-requires-clause-agreeing : goal.one_round-requires-clause-agreeing
 one_round-requires-clause-agreeing g c =
-    let E = c.args.store.now.1 in
+    let E = c.args.store.now.edges in
     let system = system_from 0 c.args.shapes.now E in
     let n = length-system_from 0 c.args.shapes.now E in
     let p = c.loop-x.progress in
@@ -122,14 +122,14 @@ one_round-requires-clause-cells g c = c.loop-x.invariant.cells
 
 pub one_round-requires-clause-room : goal.one_round-requires-clause-room
 one_round-requires-clause-room g c =
-    let E = c.args.store.now.1 in
+    let E = c.args.store.now.edges in
     let system = system_from 0 c.args.shapes.now E in
     let n = length-system_from 0 c.args.shapes.now E in
     let p = c.loop-x.progress in
     let h = c.loop-x.invariant.history in
     let ready = c.loop-x.invariant.ready in
     let low : (j : ℕ) → j < length E → target_at E j < length system = λ j hj.
-    (let t = target_low E c.args.store.now.0 j c.is_stored.ensures.targets_in hj in
+    (let t = target_low E c.args.store.now.states j c.is_stored.ensures.targets_in hj in
     omega (arith, t, n, c.requires.one_shape)) in
     let bound : scanned p.scans.items E ≤ length E * 25 =
     scans_in (g.I.Iface.node c.args.iface.now) (g.I.Iface.value c.args.iface.now) system E
@@ -146,14 +146,14 @@ one_round-requires-clause-room g c =
 
 pub one_round-requires-clause-steps_fit : goal.one_round-requires-clause-steps_fit
 one_round-requires-clause-steps_fit g c =
-    let E = c.args.store.now.1 in
+    let E = c.args.store.now.edges in
     let system = system_from 0 c.args.shapes.now E in
     let n = length-system_from 0 c.args.shapes.now E in
     let p = c.loop-x.progress in
     let h = c.loop-x.invariant.history in
     let ready = c.loop-x.invariant.ready in
     let low : (j : ℕ) → j < length E → target_at E j < length system = λ j hj.
-    (let t = target_low E c.args.store.now.0 j c.is_stored.ensures.targets_in hj in
+    (let t = target_low E c.args.store.now.states j c.is_stored.ensures.targets_in hj in
     omega (arith, t, n, c.requires.one_shape)) in
     let bound : scanned p.scans.items E ≤ length E * 25 =
     scans_in (g.I.Iface.node c.args.iface.now) (g.I.Iface.value c.args.iface.now) system E
@@ -171,14 +171,14 @@ one_round-requires-clause-steps_fit g c =
 
 pub overflow_add-labels : goal.overflow_add-labels
 overflow_add-labels g c =
-    let E = c.args.store.now.1 in
+    let E = c.args.store.now.edges in
     let system = system_from 0 c.args.shapes.now E in
     let n = length-system_from 0 c.args.shapes.now E in
     let p = c.loop-x.progress in
     let h = c.loop-x.invariant.history in
     let ready = c.loop-x.invariant.ready in
     let low : (j : ℕ) → j < length E → target_at E j < length system = λ j hj.
-    (let t = target_low E c.args.store.now.0 j c.is_stored.ensures.targets_in hj in
+    (let t = target_low E c.args.store.now.states j c.is_stored.ensures.targets_in hj in
     omega (arith, t, n, c.requires.one_shape)) in
     let bound : scanned p.scans.items E ≤ length E * 25 =
     scans_in (g.I.Iface.node c.args.iface.now) (g.I.Iface.value c.args.iface.now) system E
@@ -196,7 +196,7 @@ overflow_add-labels g c =
 
 pub loop-x-preserved : goal.loop-x-preserved
 loop-x-preserved g c =
-    let E = c.args.store.now.1 in
+    let E = c.args.store.now.edges in
     let system = system_from 0 c.args.shapes.now E in
     let n = length-system_from 0 c.args.shapes.now E in
     let p = c.loop-x.progress in
@@ -219,7 +219,7 @@ loop-x-preserved g c =
     let next = scanned_next E p.blocks c.in_ok-numbers.numbers.splitter p.scans.items
     after.scans.items
     (λ j hj. c.in_ok-numbers.ensures.scans (target_at E j)
-    (let t = target_low E c.args.store.now.0 j c.is_stored.ensures.targets_in hj in
+    (let t = target_low E c.args.store.now.states j c.is_stored.ensures.targets_in hj in
     omega (arith, t))) in
     record {
       history = (
@@ -253,7 +253,7 @@ loop-x-preserved g c =
 
 pub returns-clause-greatest : goal.returns-clause-greatest
 returns-clause-greatest g c =
-    let E = c.args.store.now.1 in
+    let E = c.args.store.now.edges in
     let system = system_from 0 c.args.shapes.now E in
     let n = length-system_from 0 c.args.shapes.now E in
     let p = c.loop-x.progress in

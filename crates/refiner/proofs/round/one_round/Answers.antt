@@ -24,7 +24,7 @@ use Rattle.refiner.proofs.round.one_round.Goals as goal
 
 pub update_cells-requires-clause-within : goal.update_cells-requires-clause-within
 update_cells-requires-clause-within g c =
-    let E = c.args.store.now.1 in
+    let E = c.args.store.now.edges in
     let p = c.args.progress.now.blocks in
     let q = c.args.progress.now.coarse in
     let numbers = c.args.progress.now.numbers.items in
@@ -48,7 +48,7 @@ update_cells-requires-clause-within g c =
 
 pub update_cells-requires-clause-edges : goal.update_cells-requires-clause-edges
 update_cells-requires-clause-edges g c =
-    subst (λ es. AreEdgesWithin c.args.store.now.1 c.args.progress.now.blocks
+    subst (λ es. AreEdgesWithin c.args.store.now.edges c.args.progress.now.blocks
     c.block_of-splitter.result es) (sym c.as_slice.ensures.value) c.in_ok-edges_within.ensures
 
 pub update_cells-requires-clause-few : goal.update_cells-requires-clause-few
@@ -56,9 +56,9 @@ update_cells-requires-clause-few g c =
     omega (
       arith,
       ap length c.as_slice.ensures.value,
-      as_many c.args.store.now.1 c.args.progress.now.blocks c.block_of-splitter.result
+      as_many c.args.store.now.edges c.args.progress.now.blocks c.block_of-splitter.result
           c.edges_within.new.found.items c.in_ok-edges_within.ensures,
-      few_into c.args.store.now.1 c.args.progress.now.blocks c.block_of-splitter.result,
+      few_into c.args.store.now.edges c.args.progress.now.blocks c.block_of-splitter.result,
       c.is_stored.ensures.few,
     )
 
@@ -67,16 +67,16 @@ update_cells-requires-clause-room g c =
     omega (
       arith,
       ap length c.as_slice.ensures.value,
-      as_many c.args.store.now.1 c.args.progress.now.blocks c.block_of-splitter.result
+      as_many c.args.store.now.edges c.args.progress.now.blocks c.block_of-splitter.result
           c.edges_within.new.found.items c.in_ok-edges_within.ensures,
-      few_into c.args.store.now.1 c.args.progress.now.blocks c.block_of-splitter.result,
+      few_into c.args.store.now.edges c.args.progress.now.blocks c.block_of-splitter.result,
       c.is_stored.ensures.few,
       c.requires.room,
     )
 
 pub split_touched-requires-clause-told : goal.split_touched-requires-clause-told
 split_touched-requires-clause-told g c =
-    let E = c.args.store.now.1 in
+    let E = c.args.store.now.edges in
     let p = c.args.progress.now.blocks in
     let q = c.args.progress.now.coarse in
     let numbers = c.args.progress.now.numbers.items in
@@ -106,7 +106,7 @@ split_touched-requires-clause-told g c =
 
 pub add_waiting-requires : goal.add_waiting-requires
 add_waiting-requires g c =
-    let E = c.args.store.now.1 in
+    let E = c.args.store.now.edges in
     let p = c.args.progress.now.blocks in
     let q = c.args.progress.now.coarse in
     let numbers = c.args.progress.now.numbers.items in
@@ -148,7 +148,7 @@ add_waiting-requires g c =
 
 pub returns-clause-round : goal.returns-clause-round
 returns-clause-round g c =
-    let E = c.args.store.now.1 in
+    let E = c.args.store.now.edges in
     let p = c.args.progress.now.blocks in
     let q = c.args.progress.now.coarse in
     let numbers = c.args.progress.now.numbers.items in
@@ -196,7 +196,7 @@ returns-clause-round g c =
 
 pub returns-clause-ready : goal.returns-clause-ready
 returns-clause-ready g c =
-    let E = c.args.store.now.1 in
+    let E = c.args.store.now.edges in
     let p = c.args.progress.now.blocks in
     let q = c.args.progress.now.coarse in
     let numbers = c.args.progress.now.numbers.items in
@@ -226,7 +226,7 @@ returns-clause-ready g c =
     c.in_ok-split_touched.ensures.cut all voids moved one in
     let pr = c.args.progress.now in
     let was = c.requires.ready in
-    let states : length c.split_touched.new.blocks.block ≡ c.args.store.now.0 =
+    let states : length c.split_touched.new.blocks.block ≡ c.args.store.now.states =
     cut.states ∙ was.states in
     let coarse : length c.take_out.new.coarse.block ≡ length c.split_touched.new.blocks.block =
     c.in_ok-take_out.ensures.states ∙ ready.states ∙ sym cut.states in
@@ -292,13 +292,13 @@ returns-clause-rise g c =
 
 pub returns-clause-counted : goal.returns-clause-counted
 returns-clause-counted g c =
-    let many = as_many c.args.store.now.1 c.args.progress.now.blocks c.block_of-splitter.result
+    let many = as_many c.args.store.now.edges c.args.progress.now.blocks c.block_of-splitter.result
     c.edges_within.new.found.items c.in_ok-edges_within.ensures in
     omega (arith, many)
 
 pub returns-clause-cells : goal.returns-clause-cells
 returns-clause-cells g c =
-    let E = c.args.store.now.1 in
+    let E = c.args.store.now.edges in
     let p = c.args.progress.now.blocks in
     let q = c.args.progress.now.coarse in
     let s = c.block_of-splitter.result in
@@ -306,7 +306,7 @@ returns-clause-cells g c =
     (λ x. block_at c.take_out.new.coarse) c.update_cells.new.cells.of.items
     c.update_cells.new.cells.weights.items
     (λ e he. sym (c.in_ok-take_out.ensures.out (target_at E e)
-    (let t = target_low E c.args.store.now.0 e c.is_stored.ensures.targets_in he in
+    (let t = target_low E c.args.store.now.states e c.is_stored.ensures.targets_in he in
     omega (arith, t, c.requires.ready.states))))
     c.in_ok-update_cells.ensures.cells
 

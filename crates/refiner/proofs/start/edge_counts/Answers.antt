@@ -5,7 +5,7 @@ use Rattle.refiner.proofs.start.edge_counts.Goals as goal
 
 pub loop-x-preserved : goal.loop-x-preserved
 loop-x-preserved g c =
-    let E = c.args.store.now.1 in
+    let E = c.args.store.now.edges in
     let many = ap length c.from_state.ensures.labels ∙ edges_many E c.loop-x.x in
     record {
       one_each = omega (arith, c.in_ok-push.ensures.len, c.loop-x.invariant.one_each);

@@ -18,15 +18,15 @@ init-requires-clause-fit g c =
     let at : slice_get c.args.shapes.now c.loop-x.x ≡ Some c.index-shapes-x.result =
     slice_get_read c.args.shapes.now (length c.args.shapes.now) c.loop-x.x
     c.index-shapes-x.result refl hx c.index-shapes-x.is in
-    let is : IsState (system_from 0 c.args.shapes.now c.args.store.now.1) c.loop-x.x
+    let is : IsState (system_from 0 c.args.shapes.now c.args.store.now.edges) c.loop-x.x
     (record {
       shape = c.index-shapes-x.result;
       labels =
-          labels_from c.args.store.now.1 c.loop-x.x;
+          labels_from c.args.store.now.edges c.loop-x.x;
       targets =
-          targets_from c.args.store.now.1 c.loop-x.x;
+          targets_from c.args.store.now.edges c.loop-x.x;
     }) = state_at_zero c.loop-x.x c.args.shapes.now
-    c.args.store.now.1 c.index-shapes-x.result at in
+    c.args.store.now.edges c.index-shapes-x.result at in
     subst (λ ls. g.I.Iface.fits c.args.iface.now c.index-shapes-x.result ls)
     (sym c.from_state-from.ensures.labels) (c.requires.system.fit c.loop-x.x _ is)
 
@@ -35,7 +35,7 @@ loop-x-init g c = record {
   len = ap length c.new-values.ensures.items;
   each = λ k a h at. absurd (omega arith);
   whole = rw c.new-weights.ensures.items
-      (whole_none (g.I.Iface.toward c.args.iface.now) c.args.shapes.now c.args.store.now.1);
+      (whole_none (g.I.Iface.toward c.args.iface.now) c.args.shapes.now c.args.store.now.edges);
   rise = omega (arith, c.is_stored.ensures.none);
 }
 
@@ -46,22 +46,22 @@ loop-x-preserved g c =
     let at : slice_get c.args.shapes.now c.loop-x.x ≡ Some c.index-shapes-x.result =
     slice_get_read c.args.shapes.now (length c.args.shapes.now) c.loop-x.x
     c.index-shapes-x.result refl hx c.index-shapes-x.is in
-    let is : IsState (system_from 0 c.args.shapes.now c.args.store.now.1) c.loop-x.x
+    let is : IsState (system_from 0 c.args.shapes.now c.args.store.now.edges) c.loop-x.x
     (record {
       shape = c.index-shapes-x.result;
       labels =
-          labels_from c.args.store.now.1 c.loop-x.x;
+          labels_from c.args.store.now.edges c.loop-x.x;
       targets =
-          targets_from c.args.store.now.1 c.loop-x.x;
+          targets_from c.args.store.now.edges c.loop-x.x;
     }) = state_at_zero c.loop-x.x c.args.shapes.now
-    c.args.store.now.1 c.index-shapes-x.result at in
+    c.args.store.now.edges c.index-shapes-x.result at in
     let value : g.I.Iface.value c.args.iface.now c.index-shapes-x.result
-    (labels_from c.args.store.now.1 c.loop-x.x)
-    (map (λ _. 2) (targets_from c.args.store.now.1 c.loop-x.x)) ≡ c.in_ok-weight.three =
+    (labels_from c.args.store.now.edges c.loop-x.x)
+    (map (λ _. 2) (targets_from c.args.store.now.edges c.loop-x.x)) ≡ c.in_ok-weight.three =
     ap (g.I.Iface.value c.args.iface.now c.index-shapes-x.result
-    (labels_from c.args.store.now.1 c.loop-x.x))
-    (two_each (targets_from c.args.store.now.1 c.loop-x.x)
-    (labels_from c.args.store.now.1 c.loop-x.x) c.first_from-first.ensures.as_many)
+    (labels_from c.args.store.now.edges c.loop-x.x))
+    (two_each (targets_from c.args.store.now.edges c.loop-x.x)
+    (labels_from c.args.store.now.edges c.loop-x.x) c.first_from-first.ensures.as_many)
     ∙ ap (λ ls. g.I.Iface.value c.args.iface.now c.index-shapes-x.result ls (each 2 ls))
     (sym c.from_state-from.ensures.labels) ∙ sym c.in_ok-weight.ensures.three in
     record {
@@ -72,10 +72,10 @@ loop-x-preserved g c =
             c.loop-x.invariant.len,
           );
       each = values_more (g.I.Iface.value c.args.iface.now)
-          (system_from 0 c.args.shapes.now c.args.store.now.1) (λ _. 2) c.loop-x.values.items
+          (system_from 0 c.args.shapes.now c.args.store.now.edges) (λ _. 2) c.loop-x.values.items
           c.push.new.self.items c.loop-x.x c.in_ok-weight.three _ c.loop-x.invariant.len
           c.in_ok-push.ensures.items is value c.loop-x.invariant.each;
-      whole = whole_more (g.I.Iface.toward c.args.iface.now) c.args.shapes.now c.args.store.now.1
+      whole = whole_more (g.I.Iface.toward c.args.iface.now) c.args.shapes.now c.args.store.now.edges
           c.loop-x.x c.loop-x.weights.items c.push-in-loop-x.new.self.items c.in_ok-weight.weight
           c.index-shapes-x.result
           c.in_ok-push-2.ensures.items at
@@ -94,14 +94,14 @@ loop-x-preserved g c =
 
 pub returns-clause-weights : goal.returns-clause-weights
 returns-clause-weights g c =
-    let all : c.loop-x.x ≡ c.args.store.now.0 =
+    let all : c.loop-x.x ≡ c.args.store.now.states =
     omega (arith, c.loop-x-test.false, c.states-x-end.ensures.states) in
-    subst (λ n. AreWhole (g.I.Iface.toward c.args.iface.now) c.args.shapes.now c.args.store.now.1 n
+    subst (λ n. AreWhole (g.I.Iface.toward c.args.iface.now) c.args.shapes.now c.args.store.now.edges n
     c.loop-x.weights.items) all c.loop-x.invariant.whole
 
 pub returns-clause-values : goal.returns-clause-values
 returns-clause-values g c =
-    let n = length-system_from 0 c.args.shapes.now c.args.store.now.1 in
+    let n = length-system_from 0 c.args.shapes.now c.args.store.now.edges in
     let all : c.loop-x.x ≡ length c.args.shapes.now =
     omega (arith, c.loop-x-test.false, c.states-x-end.ensures.states, c.requires.one_shape) in
     record {
@@ -109,7 +109,7 @@ returns-clause-values g c =
       each = λ x a at. c.loop-x.invariant.each x a
           (omega (
             arith,
-            slice_get_within (system_from 0 c.args.shapes.now c.args.store.now.1) x a
+            slice_get_within (system_from 0 c.args.shapes.now c.args.store.now.edges) x a
                 at,
             n,
             all,

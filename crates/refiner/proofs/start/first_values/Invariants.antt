@@ -9,8 +9,8 @@ abbrev pub invariant-loop-x : goal.invariant-loop-x
 invariant-loop-x g l = record {
   len : length l.values.items ≡ l.x;
   each :
-      (k : ℕ) (a : Sorted _ _) → k < l.x → IsState (system_from 0 l.shapes l.store.1) k a →
+      (k : ℕ) (a : Sorted _ _) → k < l.x → IsState (system_from 0 l.shapes l.store.edges) k a →
       g.I.Iface.value l.iface a.shape a.labels (map (λ _. 2) a.targets) ≡ value_at l.values.items k;
-  whole : AreWhole (g.I.Iface.toward l.iface) l.shapes l.store.1 l.x l.weights.items;
-  rise : l.steps ≡ l.initial.steps + first_of l.store.1 l.x;
+  whole : AreWhole (g.I.Iface.toward l.iface) l.shapes l.store.edges l.x l.weights.items;
+  rise : l.steps ≡ l.initial.steps + first_of l.store.edges l.x;
 }

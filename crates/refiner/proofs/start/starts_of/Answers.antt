@@ -19,7 +19,7 @@ bounds-values-x g c =
       (m.each 0 0 m.some).0,
       c.requires.values.len,
       length-system_from 0
-          c.args.shapes.now c.args.store.now.1,
+          c.args.shapes.now c.args.store.now.edges,
       c.requires.one_shape,
       c.requires.in_blocks,
     )
@@ -37,19 +37,19 @@ loop-block-preserved g c =
       hx,
       c.requires.values.len,
       length-system_from 0 c.args.shapes.now
-          c.args.store.now.1,
+          c.args.store.now.edges,
     ) in
     let at : slice_get c.args.shapes.now x ≡ Some c.index-shapes-x.result =
     slice_get_read c.args.shapes.now (length c.args.shapes.now) x c.index-shapes-x.result refl
     hx c.index-shapes-x.is in
-    let is : IsState (system_from 0 c.args.shapes.now c.args.store.now.1) x
+    let is : IsState (system_from 0 c.args.shapes.now c.args.store.now.edges) x
     (record {
       shape = c.index-shapes-x.result;
       labels =
-          labels_from c.args.store.now.1 x;
-      targets = targets_from c.args.store.now.1 x;
+          labels_from c.args.store.now.edges x;
+      targets = targets_from c.args.store.now.edges x;
     }) =
-    state_at_zero x c.args.shapes.now c.args.store.now.1 c.index-shapes-x.result at in
+    state_at_zero x c.args.shapes.now c.args.store.now.edges c.index-shapes-x.result at in
     record {
       len = ap length c.in_ok-push.ensures.items
           ∙ omega (
@@ -64,7 +64,7 @@ loop-block-preserved g c =
             c.loop-block.invariant.len,
           );
       each = push_each (λ k s. IsStartBlock (g.I.Iface.node c.args.iface.now)
-          (system_from 0 c.args.shapes.now c.args.store.now.1) c.args.values.now c.args.blocks.now k
+          (system_from 0 c.args.shapes.now c.args.store.now.edges) c.args.values.now c.args.blocks.now k
           s)
           c.loop-block.start.items c.push.new.self.items _ c.loop-block.block
           c.loop-block.invariant.len c.in_ok-push.ensures.items c.loop-block.invariant.each
@@ -76,14 +76,14 @@ loop-block-preserved g c =
             three_is = get_or_default c.args.values.now x (Trit 0) c.index-values-x.result hv
                 ∙ sym c.index-values-x.is ∙ sym c.in_ok-three.ensures.same;
             node_is = λ a ax. ap (λ (b : Sorted _ _). g.I.Iface.node c.args.iface.now b.shape)
-                (element_at (system_from 0 c.args.shapes.now c.args.store.now.1) x a _ ax is)
+                (element_at (system_from 0 c.args.shapes.now c.args.store.now.edges) x a _ ax is)
                 ∙ sym c.node-node.ensures.node_is;
           });
     }
 
 pub returns : goal.returns
 returns g c =
-    let n = length-system_from 0 c.args.shapes.now c.args.store.now.1 in
+    let n = length-system_from 0 c.args.shapes.now c.args.store.now.edges in
     let all : c.loop-block.block ≡ c.args.blocks.now.count =
     omega (
       arith,
@@ -92,7 +92,7 @@ returns g c =
       c.loop-block.auto.block-end,
     ) in
     start_made (g.I.Iface.node c.args.iface.now) (g.I.Iface.value c.args.iface.now)
-    (system_from 0 c.args.shapes.now c.args.store.now.1) c.args.values.now c.args.blocks.now
+    (system_from 0 c.args.shapes.now c.args.store.now.edges) c.args.values.now c.args.blocks.now
     (c.requires.in_blocks ∙ sym c.requires.one_shape ∙ sym n)
     (λ x hx. omega (
       arith,

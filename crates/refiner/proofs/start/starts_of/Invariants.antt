@@ -9,6 +9,6 @@ invariant-loop-block g l = record {
   len : length l.start.items ≡ l.block;
   each :
       (k : ℕ) (d : Start) → k < l.block →
-      IsStartBlock (g.I.Iface.node l.iface) (system_from 0 l.shapes l.store.1) l.values l.blocks k
+      IsStartBlock (g.I.Iface.node l.iface) (system_from 0 l.shapes l.store.edges) l.values l.blocks k
       (get_or l.start.items k d);
 }

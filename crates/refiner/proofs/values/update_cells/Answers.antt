@@ -13,7 +13,7 @@ use Rattle.refiner.proofs.values.update_cells.Goals as goal
 
 pub loop-from-init : goal.loop-from-init
 loop-from-init g c =
-    let E = c.args.store.now.1 in
+    let E = c.args.store.now.edges in
     let p = c.args.blocks.now in
     let q = c.args.coarse.now in
     let s = c.args.s in
@@ -45,7 +45,7 @@ loop-from-init g c =
 
 pub update_one-requires-clause-cells : goal.update_one-requires-clause-cells
 update_one-requires-clause-cells g c =
-    let E = c.args.store.now.1 in
+    let E = c.args.store.now.edges in
     let p = c.args.blocks.now in
     let q = c.args.coarse.now in
     let s = c.args.s in
@@ -72,7 +72,7 @@ update_one-requires-clause-cells g c =
 
 pub update_one-requires-clause-group : goal.update_one-requires-clause-group
 update_one-requires-clause-group g c =
-    let E = c.args.store.now.1 in
+    let E = c.args.store.now.edges in
     let p = c.args.blocks.now in
     let q = c.args.coarse.now in
     let s = c.args.s in
@@ -129,7 +129,7 @@ update_one-requires-clause-steps_fit g c =
 
 pub loop-from-preserved : goal.loop-from-preserved
 loop-from-preserved g c =
-    let E = c.args.store.now.1 in
+    let E = c.args.store.now.edges in
     let p = c.args.blocks.now in
     let q = c.args.coarse.now in
     let s = c.args.s in
@@ -201,7 +201,7 @@ loop-from-preserved g c =
 
 pub loop-from-preserved-in_ok-push : goal.loop-from-preserved-in_ok-push
 loop-from-preserved-in_ok-push g c =
-    let E = c.args.store.now.1 in
+    let E = c.args.store.now.edges in
     let p = c.args.blocks.now in
     let q = c.args.coarse.now in
     let s = c.args.s in
@@ -286,7 +286,7 @@ returns-clause-few_more g c =
 
 pub returns-clause-cells : goal.returns-clause-cells
 returns-clause-cells g c =
-    let E = c.args.store.now.1 in
+    let E = c.args.store.now.edges in
     let p = c.args.blocks.now in
     let q = c.args.coarse.now in
     let s = c.args.s in
@@ -310,7 +310,7 @@ returns-clause-cells g c =
 
 pub returns-clause-moved : goal.returns-clause-moved
 returns-clause-moved g c =
-    let E = c.args.store.now.1 in
+    let E = c.args.store.now.edges in
     let p = c.args.blocks.now in
     let q = c.args.coarse.now in
     let s = c.args.s in

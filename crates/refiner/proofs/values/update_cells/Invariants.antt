@@ -11,11 +11,11 @@ invariant-loop-from g l = record {
   few_more : length l.cells.weights.items ≤ length l.initial.cells.weights.items + l.from;
   rise : l.steps ≡ l.initial.steps + l.from;
   sizes : AreCounted l.cells.of.items l.cells.sizes.items l.cells.weights.items;
-  updating : (bound : ℕ) × AreUpdatedBelow (g.I.Iface.toward l.iface) l.shapes l.store.1 l.blocks
+  updating : (bound : ℕ) × AreUpdatedBelow (g.I.Iface.toward l.iface) l.shapes l.store.edges l.blocks
       l.coarse l.s l.edges
-      (round_values (g.I.Iface.value l.iface) (system_from 0 l.shapes l.store.1)
+      (round_values (g.I.Iface.value l.iface) (system_from 0 l.shapes l.store.edges)
       (trit_in l.blocks l.coarse l.s l.c))
-      (round_voids (g.I.Iface.value l.iface) (system_from 0 l.shapes l.store.1)
+      (round_voids (g.I.Iface.value l.iface) (system_from 0 l.shapes l.store.edges)
       (trit_in l.blocks l.coarse l.s l.c))
       l.from bound l.cells.of.items l.cells.weights.items l.moved.items;
 }

@@ -14,7 +14,7 @@ use Rattle.refiner.proofs.values.update_one.Goals as goal
 
 pub update-requires-clause-cell : goal.update-requires-clause-cell
 update-requires-clause-cell g c =
-    let E = c.args.store.now.1 in
+    let E = c.args.store.now.edges in
     let p = c.args.blocks.now in
     let q = c.args.coarse.now in
     let x = c.args.x in
@@ -24,13 +24,13 @@ update-requires-clause-cell g c =
     let first = get_or group 0 0 in
     let first_is = c.requires.group.each 0 0 c.requires.group.some in
     let low : (e : ℕ) → e < length E → target_at E e < states_of p = λ e he.
-    (let t = target_low E c.args.store.now.0 e c.is_stored.ensures.targets_in he in
+    (let t = target_low E c.args.store.now.states e c.is_stored.ensures.targets_in he in
     omega (arith, t, c.requires.in_blocks)) in
     let k : c.index-cell.result.now ≡ get_or cells first 0 =
     get_or_read cells first c.index-cell.result.now
     (omega (arith, first_is.0, c.requires.cells.one_each)) c.index-cell.ensures 0 in
     let hx : x < length c.args.shapes.now =
-    (let t = source_low E c.args.store.now.0 first c.is_stored.ensures.sources_in first_is.0 in
+    (let t = source_low E c.args.store.now.states first c.is_stored.ensures.sources_in first_is.0 in
     omega (arith, t, first_is.1, c.requires.one_shape)) in
     let here = state_at c.args.shapes.now x hx in (
       here.0,
@@ -47,10 +47,10 @@ update-requires-clause-cell g c =
 
 pub update-requires-clause-few : goal.update-requires-clause-few
 update-requires-clause-few g c =
-    let labels = labels_of c.args.store.now.1 in
+    let labels = labels_of c.args.store.now.edges in
     let all : All (λ e. e < length labels) c.args.edges.now = λ k d h.
     (let e = c.requires.group.each k d h in
-    omega (arith, e.0, length-map (λ (e : Edge _). e.label) c.args.store.now.1)) in
+    omega (arith, e.0, length-map (λ (e : Edge _). e.label) c.args.store.now.edges)) in
     omega (
       arith,
       ap length (c.as_slice.ensures.value ∙ c.in_ok-read_labels.ensures),
@@ -61,7 +61,7 @@ update-requires-clause-few g c =
 -- the edges of the group have the cell of the first
 pub part-requires-clause-each : goal.part-requires-clause-each
 part-requires-clause-each g c =
-    let E = c.args.store.now.1 in
+    let E = c.args.store.now.edges in
     let p = c.args.blocks.now in
     let q = c.args.coarse.now in
     let group = c.args.edges.now in
@@ -69,7 +69,7 @@ part-requires-clause-each g c =
     let first = get_or group 0 0 in
     let first_is = c.requires.group.each 0 0 c.requires.group.some in
     let low : (e : ℕ) → e < length E → target_at E e < states_of p = λ e he.
-    (let t = target_low E c.args.store.now.0 e c.is_stored.ensures.targets_in he in
+    (let t = target_low E c.args.store.now.states e c.is_stored.ensures.targets_in he in
     omega (arith, t, c.requires.in_blocks)) in
     let k : c.index-cell.result.now ≡ get_or cells first 0 =
     get_or_read cells first c.index-cell.result.now
@@ -87,7 +87,7 @@ part-requires-clause-each g c =
 
 pub returns-clause-cells : goal.returns-clause-cells
 returns-clause-cells g c =
-    let E = c.args.store.now.1 in
+    let E = c.args.store.now.edges in
     let p = c.args.blocks.now in
     let q = c.args.coarse.now in
     let x = c.args.x in
@@ -97,13 +97,13 @@ returns-clause-cells g c =
     let first = get_or group 0 0 in
     let first_is = c.requires.group.each 0 0 c.requires.group.some in
     let low : (e : ℕ) → e < length E → target_at E e < states_of p = λ e he.
-    (let t = target_low E c.args.store.now.0 e c.is_stored.ensures.targets_in he in
+    (let t = target_low E c.args.store.now.states e c.is_stored.ensures.targets_in he in
     omega (arith, t, c.requires.in_blocks)) in
     let k : c.index-cell.result.now ≡ get_or cells first 0 =
     get_or_read cells first c.index-cell.result.now
     (omega (arith, first_is.0, c.requires.cells.one_each)) c.index-cell.ensures 0 in
     let hx : x < length c.args.shapes.now =
-    (let t = source_low E c.args.store.now.0 first c.is_stored.ensures.sources_in first_is.0 in
+    (let t = source_low E c.args.store.now.states first c.is_stored.ensures.sources_in first_is.0 in
     omega (arith, t, first_is.1, c.requires.one_shape)) in
     let here = state_at c.args.shapes.now x hx in
     let updated = c.in_ok-part.ensures.updated here.0 (labels_from E x)
@@ -129,7 +129,7 @@ returns-clause-cells g c =
 
 pub returns-clause-three : goal.returns-clause-three
 returns-clause-three g c = λ shape at.
-    let E = c.args.store.now.1 in
+    let E = c.args.store.now.edges in
     let p = c.args.blocks.now in
     let q = c.args.coarse.now in
     let x = c.args.x in
@@ -139,7 +139,7 @@ returns-clause-three g c = λ shape at.
     let first = get_or group 0 0 in
     let first_is = c.requires.group.each 0 0 c.requires.group.some in
     let low : (e : ℕ) → e < length E → target_at E e < states_of p = λ e he.
-    (let t = target_low E c.args.store.now.0 e c.is_stored.ensures.targets_in he in
+    (let t = target_low E c.args.store.now.states e c.is_stored.ensures.targets_in he in
     omega (arith, t, c.requires.in_blocks)) in
     let k : c.index-cell.result.now ≡ get_or cells first 0 =
     get_or_read cells first c.index-cell.result.now
@@ -156,7 +156,7 @@ returns-clause-three g c = λ shape at.
 
 pub returns-clause-void : goal.returns-clause-void
 returns-clause-void g c = λ shape at.
-    let E = c.args.store.now.1 in
+    let E = c.args.store.now.edges in
     let p = c.args.blocks.now in
     let q = c.args.coarse.now in
     let x = c.args.x in
@@ -166,7 +166,7 @@ returns-clause-void g c = λ shape at.
     let first = get_or group 0 0 in
     let first_is = c.requires.group.each 0 0 c.requires.group.some in
     let low : (e : ℕ) → e < length E → target_at E e < states_of p = λ e he.
-    (let t = target_low E c.args.store.now.0 e c.is_stored.ensures.targets_in he in
+    (let t = target_low E c.args.store.now.states e c.is_stored.ensures.targets_in he in
     omega (arith, t, c.requires.in_blocks)) in
     let k : c.index-cell.result.now ≡ get_or cells first 0 =
     get_or_read cells first c.index-cell.result.now
@@ -183,10 +183,10 @@ returns-clause-void g c = λ shape at.
 
 pub returns-clause-counted : goal.returns-clause-counted
 returns-clause-counted g c =
-    let labels = labels_of c.args.store.now.1 in
+    let labels = labels_of c.args.store.now.edges in
     let all : All (λ e. e < length labels) c.args.edges.now = λ k d h.
     (let e = c.requires.group.each k d h in
-    omega (arith, e.0, length-map (λ (e : Edge _). e.label) c.args.store.now.1)) in
+    omega (arith, e.0, length-map (λ (e : Edge _). e.label) c.args.store.now.edges)) in
     omega (
       arith,
       ap length (c.as_slice.ensures.value ∙ c.in_ok-read_labels.ensures),

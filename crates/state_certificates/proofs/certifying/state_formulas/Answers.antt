@@ -1,6 +1,6 @@
 use Rattle.std.proofs.Common.{subst, ℕ, List, length, sym, ap, arith}
 use Rattle.typing.specs.Contents.{content_of}
-use Rattle.edge_store.specs.declared.edge.Edge.{Edge}
+use Rattle.edge_store.specs.Edges.{Graph}
 use Rattle.sorted_systems.specs.Systems.{IsSystem, system_from}
 use Rattle.refiner.specs.History.{IsLegal}
 use Rattle.decoding.specs.Decoded.{node_by, kin_by, value_by}
@@ -21,12 +21,12 @@ use Rattle.state_certificates.proofs.certifying.state_formulas.Goals as goal
 pub build-requires-clause-system : goal.build-requires-clause-system
 build-requires-clause-system c =
     along
-    (λ (i : Layers) (ss : List ℕ) (es : ℕ × List (Edge ℕ)).
+    (λ (i : Layers) (ss : List ℕ) (es : Graph ℕ).
     IsSystem (node_by (shape_of i.shapes.items) (label_of i.shapes.items i.weights.items) any_node)
     (kin_by (shape_of i.shapes.items) (label_of i.shapes.items i.weights.items) any_kin)
-    (fits_layer i.shapes.items i.weights.items) (system_from 0 ss es.1))
+    (fits_layer i.shapes.items i.weights.items) (system_from 0 ss es.edges))
     (sym c.iface.ensures.iface) (sym c.shapes-shapes.ensures.shapes)
-    (sym c.edges-edges.ensures.edges)
+    (sym c.store-store.ensures.store)
     (is_packed (content_of c.args.c.now) c.args.system.now c.requires.desorted
     c.sorted_states_are_a_system.ensures c.is_term.ensures)
 
@@ -35,14 +35,14 @@ build-requires-clause-legal c = (
   c.requires.refined.first,
   c.requires.refined.later,
   along
-      (λ (i : Layers) (ss : List ℕ) (es : ℕ × List (Edge ℕ)).
+      (λ (i : Layers) (ss : List ℕ) (es : Graph ℕ).
       IsLegal
       (node_by (shape_of i.shapes.items) (label_of i.shapes.items i.weights.items) any_node)
       (value_by (shape_of i.shapes.items) (label_of i.shapes.items i.weights.items)
-      (any_value i.denominator)) (system_from 0 ss es.1) c.args.refined.now
+      (any_value i.denominator)) (system_from 0 ss es.edges) c.args.refined.now
       c.requires.refined.first c.requires.refined.later)
       (sym c.iface.ensures.iface) (sym c.shapes-shapes.ensures.shapes)
-      (sym c.edges-edges.ensures.edges) c.requires.refined.legal,
+      (sym c.store-store.ensures.store) c.requires.refined.legal,
 )
 
 pub returns-clause-exact : goal.returns-clause-exact
@@ -52,7 +52,7 @@ returns-clause-exact c =
     c.values_are_of_layers.ensures c.greatest_is_equivalence.ensures c.is_term.ensures
     c.args.refined.now c.requires.refined cert c.in_ok-told.ensures.same_blocks
     (along (Told cert) c.iface.ensures.iface c.shapes-shapes.ensures.shapes
-    c.edges-edges.ensures.edges
+    c.store-store.ensures.store
     c.in_ok-told.ensures.told)
 
 pub returns-clause-separate : goal.returns-clause-separate
@@ -65,7 +65,7 @@ returns-clause-separate c =
     c.values_are_of_layers.ensures c.greatest_is_equivalence.ensures c.is_term.ensures
     c.args.refined.now c.requires.refined cert c.in_ok-told.ensures.same_blocks
     (along (Told cert) c.iface.ensures.iface c.shapes-shapes.ensures.shapes
-    c.edges-edges.ensures.edges c.in_ok-told.ensures.told))
+    c.store-store.ensures.store c.in_ok-told.ensures.told))
     (subst (λ (fs : List Formula). IsDag fs) c.dag.ensures c.is_dag.ensures.ordered)
 
 pub returns-clause-apart : goal.returns-clause-apart
@@ -75,7 +75,7 @@ returns-clause-apart c =
     c.values_are_of_layers.ensures c.greatest_is_equivalence.ensures c.is_term.ensures
     c.args.refined.now c.requires.refined cert c.in_ok-told.ensures.same_blocks
     (along (Told cert) c.iface.ensures.iface c.shapes-shapes.ensures.shapes
-    c.edges-edges.ensures.edges
+    c.store-store.ensures.store
     c.in_ok-told.ensures.told)
 
 pub returns-clause-forms : goal.returns-clause-forms
@@ -85,7 +85,7 @@ returns-clause-forms c =
     c.args.c.now.values.items c.args.system.now c.requires.desorted
     c.values_are_of_layers.ensures cert.dag cert.blocks cert.block_of
     (along (Told cert) c.iface.ensures.iface c.shapes-shapes.ensures.shapes
-    c.edges-edges.ensures.edges
+    c.store-store.ensures.store
     c.in_ok-told.ensures.told)
 
 pub returns-clause-fit : goal.returns-clause-fit
@@ -95,7 +95,7 @@ returns-clause-fit c =
     c.args.c.now.values.items c.args.system.now c.requires.desorted
     c.values_are_of_layers.ensures cert.dag cert.blocks cert.block_of
     (along (Told cert) c.iface.ensures.iface c.shapes-shapes.ensures.shapes
-    c.edges-edges.ensures.edges
+    c.store-store.ensures.store
     c.in_ok-told.ensures.told)
 
 pub returns-clause-writable : goal.returns-clause-writable
@@ -106,7 +106,7 @@ returns-clause-writable c =
     c.args.system.now c.requires.desorted c.values_are_of_layers.ensures cert.dag cert.blocks
     cert.block_of
     (along (Told cert) c.iface.ensures.iface c.shapes-shapes.ensures.shapes
-    c.edges-edges.ensures.edges
+    c.store-store.ensures.store
     c.in_ok-told.ensures.told)
     now.positive now.bounded
 
@@ -116,7 +116,7 @@ returns-clause-certificates c =
     let cert = c.in_ok-told.told in
     let told =
     along (Told cert) c.iface.ensures.iface c.shapes-shapes.ensures.shapes
-    c.edges-edges.ensures.edges c.in_ok-told.ensures.told in
+    c.store-store.ensures.store c.in_ok-told.ensures.told in
     record {
       exact =
           states_told (content_of now) c.args.system.now c.requires.desorted

@@ -68,7 +68,7 @@ returns-clause-within g c =
     let stored = c.self.invariant in
     let show = shown stored c.self.view_is in
     let first = first_at stored.by_source (state_in show c.requires) c.index.ensures in
-    let many : length (targets_from c.args.self.now.1 c.args.x)
+    let many : length (targets_from c.args.self.now.edges c.args.x)
     ≡ just c.args.x c.self.inside.sources.items =
     rw (show.sources, show.targets)
     (length-chosen c.args.x c.self.inside.sources.items c.self.inside.targets.items

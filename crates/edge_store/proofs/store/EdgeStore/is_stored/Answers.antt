@@ -24,7 +24,7 @@ returns-clause-targets_in g c =
     rw (show.targets, show.states) c.self.invariant.targets_in
 
 pub returns-clause-none : goal.returns-clause-none
-returns-clause-none g c = below_zero (sources_of c.args.self.now.1)
+returns-clause-none g c = below_zero (sources_of c.args.self.now.edges)
 
 pub returns-clause-all : goal.returns-clause-all
 returns-clause-all g c =
