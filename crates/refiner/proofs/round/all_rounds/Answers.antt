@@ -3,6 +3,7 @@ use Rattle.std.proofs.lemmas.List.{length_push}
 use Rattle.sorted_systems.specs.Systems.{system_from}
 use Rattle.refiner.specs.Cells.{scanned, target_at}
 use Rattle.refiner.specs.History.{IsRound, size_of}
+use Rattle.refiner.specs.Making.{AreNested}
 use Rattle.refiner.specs.Ready.{moment_at}
 use Rattle.refiner.specs.Recorded.{round_with}
 use Rattle.refiner.proofs.Append.{leads_on}
@@ -13,6 +14,41 @@ use Rattle.refiner.proofs.OneSource.{target_low}
 use Rattle.refiner.proofs.States.{length-system_from}
 use Rattle.refiner.proofs.Waiting.{torn_made}
 use Rattle.refiner.proofs.round.all_rounds.Goals as goal
+use Rattle.refiner.proofs.round.all_rounds.Goals.{At-loop-x}
+
+-- what holds at the head of the loop
+module _ (g : _) (c : At-loop-x g) where
+  -- blocks lie in coarse blocks
+  nested : AreNested c.loop-x.progress.blocks c.loop-x.progress.coarse
+  nested =
+      let p = c.loop-x.progress in
+      let h = c.loop-x.invariant.history in
+      let ready = c.loop-x.invariant.ready in
+      let n = length-system_from 0 c.args.shapes.now c.args.store.now.edges in
+      nested_now (g.I.Iface.node c.args.iface.now) (g.I.Iface.kin c.args.iface.now)
+      (g.I.Iface.fits c.args.iface.now) (g.I.Iface.value c.args.iface.now)
+      (g.I.Iface.agree c.args.iface.now) (g.met.I.Iface.laws c.args.iface.now)
+      (system_from 0 c.args.shapes.now c.args.store.now.edges) c.requires.system
+      c.requires.starts.0 (moment_at c.args.progress.now) c.requires.starts.1 h.0
+      c.loop-x.history.rounds h.1.legal p.blocks p.coarse p.numbers.items h.1.here ready.numbered
+      (ready.states ∙ sym c.requires.one_shape ∙ sym n)
+
+  -- no edge is scanned more than 25 times
+  bound : scanned c.loop-x.progress.scans.items c.args.store.now.edges
+      ≤ length c.args.store.now.edges * 25
+  bound =
+      let E = c.args.store.now.edges in
+      let system = system_from 0 c.args.shapes.now E in
+      let n = length-system_from 0 c.args.shapes.now E in
+      let p = c.loop-x.progress in
+      let h = c.loop-x.invariant.history in
+      let low : (j : ℕ) → j < length E → target_at E j < length system = λ j hj.
+      (let t = target_low E c.args.store.now.states j c.is_stored.ensures.targets_in hj in
+      omega (arith, t, n, c.requires.one_shape)) in
+      scans_in (g.I.Iface.node c.args.iface.now) (g.I.Iface.value c.args.iface.now) system E
+      (moment_at c.args.progress.now) h.0 c.loop-x.history.rounds (moment_at p) p.scans.items
+      c.requires.starts.0 25 h.1 c.requires.starts.1
+      (omega (arith, n, c.requires.one_shape, c.requires.few_states)) low
 
 pub loop-x-init : goal.loop-x-init
 loop-x-init g c =
@@ -51,35 +87,11 @@ loop-x-init g c =
 
 pub find_half-requires-clause-nested : goal.find_half-requires-clause-nested
 find_half-requires-clause-nested g c =
-    let E = c.args.store.now.edges in
-    let system = system_from 0 c.args.shapes.now E in
-    let n = length-system_from 0 c.args.shapes.now E in
-    let p = c.loop-x.progress in
-    let h = c.loop-x.invariant.history in
-    let ready = c.loop-x.invariant.ready in
-    nested_now (g.I.Iface.node c.args.iface.now) (g.I.Iface.kin c.args.iface.now)
-    (g.I.Iface.fits c.args.iface.now) (g.I.Iface.value c.args.iface.now)
-    (g.I.Iface.agree c.args.iface.now) (g.met.I.Iface.laws c.args.iface.now)
-    system c.requires.system
-    c.requires.starts.0 (moment_at c.args.progress.now) c.requires.starts.1 h.0
-    c.loop-x.history.rounds h.1.legal p.blocks p.coarse p.numbers.items h.1.here ready.numbered
-    (ready.states ∙ sym c.requires.one_shape ∙ sym n)
+    nested g (goal.at.find_half-requires-clause-nested g c).At-loop-x
 
 pub one_round-requires-clause-nested : goal.one_round-requires-clause-nested
 one_round-requires-clause-nested g c =
-    let E = c.args.store.now.edges in
-    let system = system_from 0 c.args.shapes.now E in
-    let n = length-system_from 0 c.args.shapes.now E in
-    let p = c.loop-x.progress in
-    let h = c.loop-x.invariant.history in
-    let ready = c.loop-x.invariant.ready in
-    nested_now (g.I.Iface.node c.args.iface.now) (g.I.Iface.kin c.args.iface.now)
-    (g.I.Iface.fits c.args.iface.now) (g.I.Iface.value c.args.iface.now)
-    (g.I.Iface.agree c.args.iface.now) (g.met.I.Iface.laws c.args.iface.now)
-    system c.requires.system
-    c.requires.starts.0 (moment_at c.args.progress.now) c.requires.starts.1 h.0
-    c.loop-x.history.rounds h.1.legal p.blocks p.coarse p.numbers.items h.1.here ready.numbered
-    (ready.states ∙ sym c.requires.one_shape ∙ sym n)
+    nested g (goal.at.one_round-requires-clause-nested g c).At-loop-x
 
 pub one_round-requires-clause-torn : goal.one_round-requires-clause-torn
 one_round-requires-clause-torn g c =
@@ -122,23 +134,9 @@ one_round-requires-clause-cells g c = c.loop-x.invariant.cells
 
 pub one_round-requires-clause-room : goal.one_round-requires-clause-room
 one_round-requires-clause-room g c =
-    let E = c.args.store.now.edges in
-    let system = system_from 0 c.args.shapes.now E in
-    let n = length-system_from 0 c.args.shapes.now E in
-    let p = c.loop-x.progress in
-    let h = c.loop-x.invariant.history in
-    let ready = c.loop-x.invariant.ready in
-    let low : (j : ℕ) → j < length E → target_at E j < length system = λ j hj.
-    (let t = target_low E c.args.store.now.states j c.is_stored.ensures.targets_in hj in
-    omega (arith, t, n, c.requires.one_shape)) in
-    let bound : scanned p.scans.items E ≤ length E * 25 =
-    scans_in (g.I.Iface.node c.args.iface.now) (g.I.Iface.value c.args.iface.now) system E
-    (moment_at c.args.progress.now) h.0 c.loop-x.history.rounds (moment_at p) p.scans.items
-    c.requires.starts.0 25 h.1 c.requires.starts.1
-    (omega (arith, n, c.requires.one_shape, c.requires.few_states)) low in
     omega (
       arith,
-      bound,
+      bound g (goal.at.one_round-requires-clause-room g c).At-loop-x,
       c.loop-x.invariant.counted,
       c.loop-x.invariant.few_cells,
       c.requires.few_edges,
@@ -146,23 +144,9 @@ one_round-requires-clause-room g c =
 
 pub one_round-requires-clause-steps_fit : goal.one_round-requires-clause-steps_fit
 one_round-requires-clause-steps_fit g c =
-    let E = c.args.store.now.edges in
-    let system = system_from 0 c.args.shapes.now E in
-    let n = length-system_from 0 c.args.shapes.now E in
-    let p = c.loop-x.progress in
-    let h = c.loop-x.invariant.history in
-    let ready = c.loop-x.invariant.ready in
-    let low : (j : ℕ) → j < length E → target_at E j < length system = λ j hj.
-    (let t = target_low E c.args.store.now.states j c.is_stored.ensures.targets_in hj in
-    omega (arith, t, n, c.requires.one_shape)) in
-    let bound : scanned p.scans.items E ≤ length E * 25 =
-    scans_in (g.I.Iface.node c.args.iface.now) (g.I.Iface.value c.args.iface.now) system E
-    (moment_at c.args.progress.now) h.0 c.loop-x.history.rounds (moment_at p) p.scans.items
-    c.requires.starts.0 25 h.1 c.requires.starts.1
-    (omega (arith, n, c.requires.one_shape, c.requires.few_states)) low in
     omega (
       arith,
-      bound,
+      bound g (goal.at.one_round-requires-clause-steps_fit g c).At-loop-x,
       c.loop-x.invariant.counted,
       c.loop-x.invariant.rise,
       c.requires.few_edges,
@@ -171,26 +155,12 @@ one_round-requires-clause-steps_fit g c =
 
 pub overflow_add-labels : goal.overflow_add-labels
 overflow_add-labels g c =
-    let E = c.args.store.now.edges in
-    let system = system_from 0 c.args.shapes.now E in
-    let n = length-system_from 0 c.args.shapes.now E in
-    let p = c.loop-x.progress in
-    let h = c.loop-x.invariant.history in
-    let ready = c.loop-x.invariant.ready in
-    let low : (j : ℕ) → j < length E → target_at E j < length system = λ j hj.
-    (let t = target_low E c.args.store.now.states j c.is_stored.ensures.targets_in hj in
-    omega (arith, t, n, c.requires.one_shape)) in
-    let bound : scanned p.scans.items E ≤ length E * 25 =
-    scans_in (g.I.Iface.node c.args.iface.now) (g.I.Iface.value c.args.iface.now) system E
-    (moment_at c.args.progress.now) h.0 c.loop-x.history.rounds (moment_at p) p.scans.items
-    c.requires.starts.0 25 h.1 c.requires.starts.1
-    (omega (arith, n, c.requires.one_shape, c.requires.few_states)) low in
     omega (
       arith,
-      bound,
+      bound g (goal.at.overflow_add-labels g c).At-loop-x,
       c.loop-x.invariant.counted,
       c.in_ok-numbers.ensures.counted,
-      few_into E p.blocks c.in_ok-numbers.numbers.splitter,
+      few_into c.args.store.now.edges c.loop-x.progress.blocks c.in_ok-numbers.numbers.splitter,
       c.requires.few_edges,
     )
 

@@ -9,7 +9,7 @@ use Rattle.refiner.specs.Recorded.{Split}
 use Rattle.refiner.specs.Cells.{round_values, round_voids, target_at, class_after, AreEdgesWithin}
 use Rattle.refiner.specs.Grouping.{AreCut}
 use Rattle.refiner.specs.Making.{trit_in}
-use Rattle.refiner.specs.Touched.{AreMoved, HaveOneVoid}
+use Rattle.refiner.specs.Touched.{HaveOneVoid}
 use Rattle.refiner.specs.Waiting.{AddsSplits}
 use Rattle.refiner.proofs.Apart.{in_blocks_after}
 use Rattle.refiner.proofs.CellsStep.{cells_agree}
@@ -21,30 +21,55 @@ use Rattle.refiner.proofs.RoundMade.{round_made, below_from_all}
 use Rattle.refiner.proofs.Voids.{one_void, values_are}
 use Rattle.refiner.proofs.Waiting.{waiting_after}
 use Rattle.refiner.proofs.round.one_round.Goals as goal
+use Rattle.refiner.proofs.round.one_round.Goals.{After-block_of-c}
+
+-- what is known of the splitter and its coarse block
+module _ (g : _) (c : After-block_of-c g) where
+  abbrev all : List Three
+  all =
+      round_values (g.I.Iface.value c.args.iface.now)
+      (system_from 0 c.args.shapes.now c.args.store.now.edges)
+      (trit_in c.args.progress.now.blocks c.args.progress.now.coarse c.block_of-splitter.result
+      c.block_of-c.result)
+
+  abbrev voids : List Three
+  voids =
+      round_voids (g.I.Iface.value c.args.iface.now)
+      (system_from 0 c.args.shapes.now c.args.store.now.edges)
+      (trit_in c.args.progress.now.blocks c.args.progress.now.coarse c.block_of-splitter.result
+      c.block_of-c.result)
+
+  n_is : states_of c.args.progress.now.blocks
+      ≡ length (system_from 0 c.args.shapes.now c.args.store.now.edges)
+  n_is =
+      c.requires.ready.states ∙ sym c.requires.one_shape
+      ∙ sym (length-system_from 0 c.args.shapes.now c.args.store.now.edges)
+
+  within : (t : ℕ) → t < states_of c.args.progress.now.blocks →
+      block_at c.args.progress.now.blocks t ≡ c.block_of-splitter.result →
+      block_at c.args.progress.now.coarse t ≡ c.block_of-c.result
+  within t ht e =
+      c.requires.nested t c.args.x ht c.requires.torn.1.0
+      (e ∙ c.block_of-splitter.ensures.block)
+      ∙ sym c.block_of-c.ensures.block
+
+  hc : c.block_of-c.result < length c.args.progress.now.numbers.items
+  hc = omega (arith, c.requires.ready.numbered.one_number, c.block_of-c.ensures.in_range)
+
+  one : HaveOneVoid voids c.args.progress.now.blocks
+  one =
+      one_void (g.I.Iface.node c.args.iface.now) (g.I.Iface.kin c.args.iface.now)
+      (g.I.Iface.fits c.args.iface.now) (g.I.Iface.value c.args.iface.now)
+      (g.I.Iface.agree c.args.iface.now) (g.met.I.Iface.laws c.args.iface.now)
+      (system_from 0 c.args.shapes.now c.args.store.now.edges) c.requires.system
+      c.args.progress.now.blocks c.args.progress.now.coarse c.args.progress.now.numbers.items
+      c.requires.ready.numbered n_is c.requires.agreeing c.block_of-splitter.result
+      c.block_of-c.result hc within
 
 pub update_cells-requires-clause-within : goal.update_cells-requires-clause-within
 update_cells-requires-clause-within g c =
-    let E = c.args.store.now.edges in
-    let p = c.args.progress.now.blocks in
-    let q = c.args.progress.now.coarse in
-    let numbers = c.args.progress.now.numbers.items in
-    let ready = c.requires.ready.numbered in
-    let s = c.block_of-splitter.result in
-    let k = c.block_of-c.result in
-    let value = g.I.Iface.value c.args.iface.now in
-    let system = system_from 0 c.args.shapes.now E in
-    let all : List Three = round_values value system (trit_in p q s k) in
-    let voids : List Three = round_voids value system (trit_in p q s k) in
-    let n = length-system_from 0 c.args.shapes.now E in
-    let n_is : states_of p ≡ length system =
-    c.requires.ready.states ∙ sym c.requires.one_shape ∙ sym n in
-    let torn = c.requires.torn.1 in
-    let within : (t : ℕ) → t < states_of p → block_at p t ≡ s → block_at q t ≡ k = λ t ht e.
-    c.requires.nested t c.args.x ht torn.0 (e ∙ c.block_of-splitter.ensures.block)
-    ∙ sym c.block_of-c.ensures.block in
-    let hc : k < length numbers =
-    omega (arith, ready.one_number, c.block_of-c.ensures.in_range) in
-    within
+    let r = (goal.at.update_cells-requires-clause-within g c).After-block_of-c in
+    within g r
 
 pub update_cells-requires-clause-edges : goal.update_cells-requires-clause-edges
 update_cells-requires-clause-edges g c =
@@ -76,64 +101,17 @@ update_cells-requires-clause-room g c =
 
 pub split_touched-requires-clause-told : goal.split_touched-requires-clause-told
 split_touched-requires-clause-told g c =
-    let E = c.args.store.now.edges in
-    let p = c.args.progress.now.blocks in
-    let q = c.args.progress.now.coarse in
-    let numbers = c.args.progress.now.numbers.items in
-    let ready = c.requires.ready.numbered in
-    let s = c.block_of-splitter.result in
-    let k = c.block_of-c.result in
-    let value = g.I.Iface.value c.args.iface.now in
-    let system = system_from 0 c.args.shapes.now E in
-    let all : List Three = round_values value system (trit_in p q s k) in
-    let voids : List Three = round_voids value system (trit_in p q s k) in
-    let n = length-system_from 0 c.args.shapes.now E in
-    let n_is : states_of p ≡ length system =
-    c.requires.ready.states ∙ sym c.requires.one_shape ∙ sym n in
-    let torn = c.requires.torn.1 in
-    let within : (t : ℕ) → t < states_of p → block_at p t ≡ s → block_at q t ≡ k = λ t ht e.
-    c.requires.nested t c.args.x ht torn.0 (e ∙ c.block_of-splitter.ensures.block)
-    ∙ sym c.block_of-c.ensures.block in
-    let hc : k < length numbers =
-    omega (arith, ready.one_number, c.block_of-c.ensures.in_range) in
-    let moved : AreMoved all voids p c.update_cells.new.moved.items =
-    c.in_ok-update_cells.ensures.moved in
-    let one : HaveOneVoid voids p = one_void (g.I.Iface.node c.args.iface.now)
-    (g.I.Iface.kin c.args.iface.now) (g.I.Iface.fits c.args.iface.now) value
-    (g.I.Iface.agree c.args.iface.now) (g.met.I.Iface.laws c.args.iface.now) system
-    c.requires.system p q numbers ready n_is c.requires.agreeing s k hc within in
-    (all, voids, moved, one)
+    let r = (goal.at.split_touched-requires-clause-told g c).After-block_of-c in
+    (all g r, voids g r, c.in_ok-update_cells.ensures.moved, one g r)
 
 pub add_waiting-requires : goal.add_waiting-requires
 add_waiting-requires g c =
-    let E = c.args.store.now.edges in
+    let r = (goal.at.add_waiting-requires g c).After-block_of-c in
     let p = c.args.progress.now.blocks in
-    let q = c.args.progress.now.coarse in
-    let numbers = c.args.progress.now.numbers.items in
-    let ready = c.requires.ready.numbered in
-    let s = c.block_of-splitter.result in
-    let k = c.block_of-c.result in
-    let value = g.I.Iface.value c.args.iface.now in
-    let system = system_from 0 c.args.shapes.now E in
-    let all : List Three = round_values value system (trit_in p q s k) in
-    let voids : List Three = round_voids value system (trit_in p q s k) in
-    let n = length-system_from 0 c.args.shapes.now E in
-    let n_is : states_of p ≡ length system =
-    c.requires.ready.states ∙ sym c.requires.one_shape ∙ sym n in
-    let torn = c.requires.torn.1 in
-    let within : (t : ℕ) → t < states_of p → block_at p t ≡ s → block_at q t ≡ k = λ t ht e.
-    c.requires.nested t c.args.x ht torn.0 (e ∙ c.block_of-splitter.ensures.block)
-    ∙ sym c.block_of-c.ensures.block in
-    let hc : k < length numbers =
-    omega (arith, ready.one_number, c.block_of-c.ensures.in_range) in
-    let moved : AreMoved all voids p c.update_cells.new.moved.items =
-    c.in_ok-update_cells.ensures.moved in
-    let one : HaveOneVoid voids p = one_void (g.I.Iface.node c.args.iface.now)
-    (g.I.Iface.kin c.args.iface.now) (g.I.Iface.fits c.args.iface.now) value
-    (g.I.Iface.agree c.args.iface.now) (g.met.I.Iface.laws c.args.iface.now) system
-    c.requires.system p q numbers ready n_is c.requires.agreeing s k hc within in
-    let cut : AreCut all p.count p c.split_touched.new.blocks c.split_touched.new.history.splits =
-    c.in_ok-split_touched.ensures.cut all voids moved one in
+    let cut : AreCut (all g r) p.count p c.split_touched.new.blocks
+    c.split_touched.new.history.splits =
+    c.in_ok-split_touched.ensures.cut (all g r) (voids g r) c.in_ok-update_cells.ensures.moved
+    (one g r) in
     rw c.open_splits-splits.ensures
     (record {
       live = λ i d h j e l. (
@@ -148,6 +126,7 @@ add_waiting-requires g c =
 
 pub returns-clause-round : goal.returns-clause-round
 returns-clause-round g c =
+    let r = (goal.at.returns-clause-round g c).After-block_of-c in
     let E = c.args.store.now.edges in
     let p = c.args.progress.now.blocks in
     let q = c.args.progress.now.coarse in
@@ -157,30 +136,15 @@ returns-clause-round g c =
     let k = c.block_of-c.result in
     let value = g.I.Iface.value c.args.iface.now in
     let system = system_from 0 c.args.shapes.now E in
-    let all : List Three = round_values value system (trit_in p q s k) in
-    let voids : List Three = round_voids value system (trit_in p q s k) in
-    let n = length-system_from 0 c.args.shapes.now E in
-    let n_is : states_of p ≡ length system =
-    c.requires.ready.states ∙ sym c.requires.one_shape ∙ sym n in
-    let torn = c.requires.torn.1 in
-    let within : (t : ℕ) → t < states_of p → block_at p t ≡ s → block_at q t ≡ k = λ t ht e.
-    c.requires.nested t c.args.x ht torn.0 (e ∙ c.block_of-splitter.ensures.block)
-    ∙ sym c.block_of-c.ensures.block in
-    let hc : k < length numbers =
-    omega (arith, ready.one_number, c.block_of-c.ensures.in_range) in
-    let moved : AreMoved all voids p c.update_cells.new.moved.items =
-    c.in_ok-update_cells.ensures.moved in
-    let one : HaveOneVoid voids p = one_void (g.I.Iface.node c.args.iface.now)
-    (g.I.Iface.kin c.args.iface.now) (g.I.Iface.fits c.args.iface.now) value
-    (g.I.Iface.agree c.args.iface.now) (g.met.I.Iface.laws c.args.iface.now) system
-    c.requires.system p q numbers ready n_is c.requires.agreeing s k hc within in
-    let cut : AreCut all p.count p c.split_touched.new.blocks c.split_touched.new.history.splits =
-    c.in_ok-split_touched.ensures.cut all voids moved one in
+    let cut : AreCut (all g r) p.count p c.split_touched.new.blocks
+    c.split_touched.new.history.splits =
+    c.in_ok-split_touched.ensures.cut (all g r) (voids g r) c.in_ok-update_cells.ensures.moved
+    (one g r) in
     let was : c.index-coarse.result.now ≡ get_or numbers k 0 =
-    get_or_read numbers k c.index-coarse.result.now hc c.index-coarse.ensures 0 in
+    get_or_read numbers k c.index-coarse.result.now (hc g r) c.index-coarse.ensures 0 in
     round_made (g.I.Iface.node c.args.iface.now) value system
     (λ x a at. below_from_all _ _ (c.requires.system.in_range x a at))
-    p q numbers ready n_is
+    p q numbers ready (n_is g r)
     c.requires.nested c.args.number k c.args.x c.requires.torn.0
     (record {
       splitter = s;
@@ -189,41 +153,24 @@ returns-clause-round g c =
       outer = 2 * c.args.number + 2;
       splits = c.split_touched.new.history.splits;
     })
-    torn c.block_of-splitter.ensures.block c.block_of-c.ensures.block was refl refl
-    all (values_are value system (trit_in p q s k))
+    c.requires.torn.1 c.block_of-splitter.ensures.block c.block_of-c.ensures.block was refl refl
+    (all g r) (values_are value system (trit_in p q s k))
     c.split_touched.new.blocks c.take_out.new.coarse c.push.new.self.items cut
     c.in_ok-take_out.ensures.out c.in_ok-take_out.ensures.states c.in_ok-push.ensures.items
 
 pub returns-clause-ready : goal.returns-clause-ready
 returns-clause-ready g c =
-    let E = c.args.store.now.edges in
+    let r = (goal.at.returns-clause-ready g c).After-block_of-c in
     let p = c.args.progress.now.blocks in
     let q = c.args.progress.now.coarse in
     let numbers = c.args.progress.now.numbers.items in
     let ready = c.requires.ready.numbered in
     let s = c.block_of-splitter.result in
     let k = c.block_of-c.result in
-    let value = g.I.Iface.value c.args.iface.now in
-    let system = system_from 0 c.args.shapes.now E in
-    let all : List Three = round_values value system (trit_in p q s k) in
-    let voids : List Three = round_voids value system (trit_in p q s k) in
-    let n = length-system_from 0 c.args.shapes.now E in
-    let n_is : states_of p ≡ length system =
-    c.requires.ready.states ∙ sym c.requires.one_shape ∙ sym n in
-    let torn = c.requires.torn.1 in
-    let within : (t : ℕ) → t < states_of p → block_at p t ≡ s → block_at q t ≡ k = λ t ht e.
-    c.requires.nested t c.args.x ht torn.0 (e ∙ c.block_of-splitter.ensures.block)
-    ∙ sym c.block_of-c.ensures.block in
-    let hc : k < length numbers =
-    omega (arith, ready.one_number, c.block_of-c.ensures.in_range) in
-    let moved : AreMoved all voids p c.update_cells.new.moved.items =
-    c.in_ok-update_cells.ensures.moved in
-    let one : HaveOneVoid voids p = one_void (g.I.Iface.node c.args.iface.now)
-    (g.I.Iface.kin c.args.iface.now) (g.I.Iface.fits c.args.iface.now) value
-    (g.I.Iface.agree c.args.iface.now) (g.met.I.Iface.laws c.args.iface.now) system
-    c.requires.system p q numbers ready n_is c.requires.agreeing s k hc within in
-    let cut : AreCut all p.count p c.split_touched.new.blocks c.split_touched.new.history.splits =
-    c.in_ok-split_touched.ensures.cut all voids moved one in
+    let cut : AreCut (all g r) p.count p c.split_touched.new.blocks
+    c.split_touched.new.history.splits =
+    c.in_ok-split_touched.ensures.cut (all g r) (voids g r) c.in_ok-update_cells.ensures.moved
+    (one g r) in
     let pr = c.args.progress.now in
     let was = c.requires.ready in
     let states : length c.split_touched.new.blocks.block ≡ c.args.store.now.states =
@@ -235,7 +182,7 @@ returns-clause-ready g c =
       numbered = record {
         states = coarse;
         in_blocks = λ x hx.
-            in_blocks_after all p c.split_touched.new.blocks
+            in_blocks_after (all g r) p c.split_touched.new.blocks
             c.split_touched.new.history.splits cut ready.in_blocks x
             (omega (arith, hx, cut.states));
         in_coarse = λ x hx.
@@ -255,7 +202,7 @@ returns-clause-ready g c =
         numbers_apart =
             rw c.in_ok-push.ensures.items
             (numbers_apart_next numbers k c.args.number ready.numbers_apart
-            was.numbers_small hc);
+            was.numbers_small (hc g r));
       };
       numbers_small =
           rw c.in_ok-push.ensures.items
@@ -275,7 +222,7 @@ returns-clause-ready g c =
           (λ z hz. c.count_scans.ensures.counted z (omega (arith, hz, was.one_scan, was.states)))
           was.scans_small;
       waiting =
-          waiting_after all p q c.split_touched.new.blocks
+          waiting_after (all g r) p q c.split_touched.new.blocks
           c.take_out.new.coarse s c.split_touched.new.history.splits
           pr.waiting.items c.add_waiting.new.waiting.items c.requires.nested ready.states
           ready.in_blocks

@@ -1,4 +1,4 @@
-use Rattle.std.proofs.Common.{◌≡◌, ◌≢◌, ◌+◌, ◌-◌, ◌<◌, ◌∙◌, ℕ, List, length, map, take, drop, sym, refl, arith}
+use Rattle.std.proofs.Common.{◌≡◌, ◌≢◌, ◌+◌, ◌-◌, ◌<◌, ◌≤◌, ◌∙◌, ℕ, List, length, map, take, drop, sym, refl, arith}
 use Rattle.std.proofs.lemmas.List.{length-take-le, length-drop}
 use Rattle.modalities.specs.declared.three.Three.{Three}
 use Rattle.iface.specs.Trits.{without_splitter}
@@ -7,9 +7,50 @@ use Rattle.sorted_systems.specs.Systems.{system_from}
 use Rattle.refiner.specs.Cells.{round_values, round_voids, source_at, target_at}
 use Rattle.refiner.specs.Grouping.{value_at}
 use Rattle.refiner.specs.Making.{trit_in}
-use Rattle.refiner.proofs.BySource.{updated_none, cells_here, group_is, stays, leaves, moved_all, cells_all, value_in, untouched_alike, sources_rise}
-use Rattle.refiner.proofs.RoundMade.{state_at}
+use Rattle.refiner.proofs.BySource.{updated_none, cells_here, group_is, stays, leaves, moved_all, cells_all, value_there, untouched_alike, sources_rise}
 use Rattle.refiner.proofs.values.update_cells.Goals as goal
+use Rattle.refiner.proofs.values.update_cells.Goals.{After-group_end-to, After-is_stored}
+
+-- what the values of the round are, and that untouched states have that of no splitter
+module _ (g : _) (c : After-is_stored g) where
+  abbrev all : List Three
+  all =
+      round_values (g.I.Iface.value c.args.iface.now)
+      (system_from 0 c.args.shapes.now c.args.store.now.edges)
+      (trit_in c.args.blocks.now c.args.coarse.now c.args.s c.args.c)
+
+  abbrev voids : List Three
+  voids =
+      round_voids (g.I.Iface.value c.args.iface.now)
+      (system_from 0 c.args.shapes.now c.args.store.now.edges)
+      (trit_in c.args.blocks.now c.args.coarse.now c.args.s c.args.c)
+
+  untouched : (y : ℕ) → y < states_of c.args.blocks.now →
+      ((e : ℕ) → e < length c.args.store.now.edges → source_at c.args.store.now.edges e ≡ y →
+      block_at c.args.blocks.now (target_at c.args.store.now.edges e) ≢ c.args.s) →
+      value_at all y ≡ value_at voids y
+  untouched y hy away =
+      untouched_alike (g.I.Iface.value c.args.iface.now) c.args.shapes.now c.args.store.now.edges
+      c.args.blocks.now c.args.coarse.now c.args.s c.args.c y
+      (omega (arith, hy, c.requires.in_blocks, c.requires.one_shape)) away
+
+  rises : (d e : ℕ) → d ≤ e → e < length c.args.store.now.edges →
+      source_at c.args.store.now.edges d ≤ source_at c.args.store.now.edges e
+  rises = sources_rise c.args.store.now.edges c.is_stored.ensures.ascending
+
+-- a group has as many edges as its range is long
+module _ (g : _) (c : After-group_end-to g) where
+  many : length (take (c.group_end-to.result - c.loop-from.from)
+      (drop c.loop-from.from c.args.edges.now)) ≡ c.group_end-to.result - c.loop-from.from
+  many =
+      length-take-le (c.group_end-to.result - c.loop-from.from)
+      (drop c.loop-from.from c.args.edges.now)
+      (omega (
+        arith,
+        length-drop c.loop-from.from c.args.edges.now,
+        c.group_end-to.ensures.within,
+        c.group_end-to.ensures.later,
+      ))
 
 pub loop-from-init : goal.loop-from-init
 loop-from-init g c =
@@ -20,16 +61,7 @@ loop-from-init g c =
     let edges = c.args.edges.now in
     let shapes = c.args.shapes.now in
     let toward = g.I.Iface.toward c.args.iface.now in
-    let value = g.I.Iface.value c.args.iface.now in
-    let trit = trit_in p q s c.args.c in
-    let all : List Three = round_values value (system_from 0 shapes E) trit in
-    let voids : List Three = round_voids value (system_from 0 shapes E) trit in
-    let untouched : (y : ℕ) → y < states_of p →
-    ((e : ℕ) → e < length E → source_at E e ≡ y → block_at p (target_at E e) ≢ s) →
-    value_at all y ≡ value_at voids y = λ y hy away.
-    untouched_alike value shapes E p q s c.args.c y
-    (omega (arith, hy, c.requires.in_blocks, c.requires.one_shape)) away in
-    let rises = sources_rise E c.is_stored.ensures.ascending in
+    let r = (goal.at.loop-from-init g c).After-is_stored in
     record {
       in_range = omega arith;
       few_more = omega arith;
@@ -37,8 +69,8 @@ loop-from-init g c =
       sizes = c.requires.counted;
       updating = (
         0,
-        rw c.clear.ensures.items (updated_none toward shapes E p q s edges c.requires.edges all
-            voids untouched rises
+        rw c.clear.ensures.items (updated_none toward shapes E p q s edges c.requires.edges (all g r)
+            (voids g r) (untouched g r) (rises g r)
             c.args.cells.now.of.items c.args.cells.now.weights.items c.requires.cells),
       );
     }
@@ -52,18 +84,10 @@ update_one-requires-clause-cells g c =
     let edges = c.args.edges.now in
     let shapes = c.args.shapes.now in
     let toward = g.I.Iface.toward c.args.iface.now in
-    let value = g.I.Iface.value c.args.iface.now in
-    let trit = trit_in p q s c.args.c in
-    let all : List Three = round_values value (system_from 0 shapes E) trit in
-    let voids : List Three = round_voids value (system_from 0 shapes E) trit in
-    let untouched : (y : ℕ) → y < states_of p →
-    ((e : ℕ) → e < length E → source_at E e ≡ y → block_at p (target_at E e) ≢ s) →
-    value_at all y ≡ value_at voids y = λ y hy away.
-    untouched_alike value shapes E p q s c.args.c y
-    (omega (arith, hy, c.requires.in_blocks, c.requires.one_shape)) away in
-    let rises = sources_rise E c.is_stored.ensures.ascending in
+    let r = (goal.at.update_one-requires-clause-cells g c).After-is_stored in
     let inv = c.loop-from.invariant.updating in
-    cells_here toward shapes E p q s edges c.requires.edges all voids untouched rises
+    cells_here toward shapes E p q s edges c.requires.edges (all g r)
+    (voids g r) (untouched g r) (rises g r)
     c.loop-from.from inv.0 c.loop-from.cells.of.items
     c.loop-from.cells.weights.items c.loop-from.moved.items inv.1
     c.group_end-to.result c.group_end-to.ensures.later
@@ -79,18 +103,10 @@ update_one-requires-clause-group g c =
     let edges = c.args.edges.now in
     let shapes = c.args.shapes.now in
     let toward = g.I.Iface.toward c.args.iface.now in
-    let value = g.I.Iface.value c.args.iface.now in
-    let trit = trit_in p q s c.args.c in
-    let all : List Three = round_values value (system_from 0 shapes E) trit in
-    let voids : List Three = round_voids value (system_from 0 shapes E) trit in
-    let untouched : (y : ℕ) → y < states_of p →
-    ((e : ℕ) → e < length E → source_at E e ≡ y → block_at p (target_at E e) ≢ s) →
-    value_at all y ≡ value_at voids y = λ y hy away.
-    untouched_alike value shapes E p q s c.args.c y
-    (omega (arith, hy, c.requires.in_blocks, c.requires.one_shape)) away in
-    let rises = sources_rise E c.is_stored.ensures.ascending in
+    let r = (goal.at.update_one-requires-clause-group g c).After-is_stored in
     let inv = c.loop-from.invariant.updating in
-    group_is toward shapes E p q s edges c.requires.edges all voids untouched rises
+    group_is toward shapes E p q s edges c.requires.edges (all g r)
+    (voids g r) (untouched g r) (rises g r)
     c.loop-from.from inv.0 c.loop-from.cells.of.items
     c.loop-from.cells.weights.items c.loop-from.moved.items inv.1
     c.group_end-to.result c.group_end-to.ensures.later
@@ -99,16 +115,9 @@ update_one-requires-clause-group g c =
 
 pub update_one-requires-clause-few : goal.update_one-requires-clause-few
 update_one-requires-clause-few g c =
-    let edges = c.args.edges.now in
     omega (
       arith,
-      length-take-le (c.group_end-to.result - c.loop-from.from)
-          (drop c.loop-from.from edges) (omega (
-            arith,
-            length-drop c.loop-from.from edges,
-            c.group_end-to.ensures.within,
-            c.group_end-to.ensures.later,
-          )),
+      many g (goal.at.update_one-requires-clause-few g c).After-group_end-to,
       c.requires.few,
       c.group_end-to.ensures.within,
     )
@@ -136,39 +145,20 @@ loop-from-preserved g c =
     let edges = c.args.edges.now in
     let shapes = c.args.shapes.now in
     let toward = g.I.Iface.toward c.args.iface.now in
+    let r = (goal.at.loop-from-preserved g c).After-is_stored in
     let value = g.I.Iface.value c.args.iface.now in
     let trit = trit_in p q s c.args.c in
-    let all : List Three = round_values value (system_from 0 shapes E) trit in
-    let voids : List Three = round_voids value (system_from 0 shapes E) trit in
-    let untouched : (y : ℕ) → y < states_of p →
-    ((e : ℕ) → e < length E → source_at E e ≡ y → block_at p (target_at E e) ≢ s) →
-    value_at all y ≡ value_at voids y = λ y hy away.
-    untouched_alike value shapes E p q s c.args.c y
-    (omega (arith, hy, c.requires.in_blocks, c.requires.one_shape)) away in
-    let rises = sources_rise E c.is_stored.ensures.ascending in
     let inv = c.loop-from.invariant.updating in
     let x = c.source-x.result in
     let hx : x < length shapes =
     omega (arith, c.source-x.ensures.in_range, c.requires.one_shape) in
-    let here = state_at shapes x hx in
-    let all_x : c.in_ok-three.three ≡ value_at all x =
-    c.in_ok-three.ensures.three here.0 here.1
-    ∙ sym (value_in (λ a. value a.shape a.labels (map trit a.targets)) shapes E x here.0 here.1) in
-    let void_x : c.in_ok-three.void ≡ value_at voids x =
-    c.in_ok-three.ensures.void here.0 here.1
-    ∙ sym (value_in (λ a. value a.shape a.labels (without_splitter (map trit a.targets))) shapes E x
-    here.0 here.1) in
-    let many : length (take (c.group_end-to.result - c.loop-from.from)
-    (drop c.loop-from.from edges))
-    ≡ c.group_end-to.result - c.loop-from.from =
-    length-take-le (c.group_end-to.result - c.loop-from.from) (drop c.loop-from.from edges)
-    (omega (
-      arith,
-      length-drop c.loop-from.from edges,
-      c.group_end-to.ensures.within,
-      c.group_end-to.ensures.later,
-    )) in
-    let one : value_at all x ≡ value_at voids x =
+    let all_x : c.in_ok-three.three ≡ value_at (all g r) x =
+    value_there (λ a ls ts. value a ls (map trit ts)) shapes E x c.in_ok-three.three hx
+    c.in_ok-three.ensures.three in
+    let void_x : c.in_ok-three.void ≡ value_at (voids g r) x =
+    value_there (λ a ls ts. value a ls (without_splitter (map trit ts))) shapes E x
+    c.in_ok-three.void hx c.in_ok-three.ensures.void in
+    let one : value_at (all g r) x ≡ value_at (voids g r) x =
     sym all_x ∙ c.is_same.ensures.0 c.if-not-is_same.false ∙ void_x in
     record {
       in_range = c.group_end-to.ensures.within;
@@ -182,13 +172,14 @@ loop-from-preserved g c =
         arith,
         c.in_ok-three.ensures.counted,
         c.loop-from.invariant.rise,
-        many,
+        many g (goal.at.loop-from-preserved g c).After-group_end-to,
         c.group_end-to.ensures.later,
       );
       sizes = c.in_ok-three.ensures.sizes;
       updating = (
         x + 1,
-        stays toward shapes E p q s edges c.requires.edges all voids untouched rises
+        stays toward shapes E p q s edges c.requires.edges (all g r)
+            (voids g r) (untouched g r) (rises g r)
             c.loop-from.from inv.0 c.loop-from.cells.of.items
             c.loop-from.cells.weights.items c.loop-from.moved.items inv.1
             c.group_end-to.result c.group_end-to.ensures.later
@@ -208,39 +199,20 @@ loop-from-preserved-in_ok-push g c =
     let edges = c.args.edges.now in
     let shapes = c.args.shapes.now in
     let toward = g.I.Iface.toward c.args.iface.now in
+    let r = (goal.at.loop-from-preserved-in_ok-push g c).After-is_stored in
     let value = g.I.Iface.value c.args.iface.now in
     let trit = trit_in p q s c.args.c in
-    let all : List Three = round_values value (system_from 0 shapes E) trit in
-    let voids : List Three = round_voids value (system_from 0 shapes E) trit in
-    let untouched : (y : ℕ) → y < states_of p →
-    ((e : ℕ) → e < length E → source_at E e ≡ y → block_at p (target_at E e) ≢ s) →
-    value_at all y ≡ value_at voids y = λ y hy away.
-    untouched_alike value shapes E p q s c.args.c y
-    (omega (arith, hy, c.requires.in_blocks, c.requires.one_shape)) away in
-    let rises = sources_rise E c.is_stored.ensures.ascending in
     let inv = c.loop-from.invariant.updating in
     let x = c.source-x.result in
     let hx : x < length shapes =
     omega (arith, c.source-x.ensures.in_range, c.requires.one_shape) in
-    let here = state_at shapes x hx in
-    let all_x : c.in_ok-three.three ≡ value_at all x =
-    c.in_ok-three.ensures.three here.0 here.1
-    ∙ sym (value_in (λ a. value a.shape a.labels (map trit a.targets)) shapes E x here.0 here.1) in
-    let void_x : c.in_ok-three.void ≡ value_at voids x =
-    c.in_ok-three.ensures.void here.0 here.1
-    ∙ sym (value_in (λ a. value a.shape a.labels (without_splitter (map trit a.targets))) shapes E x
-    here.0 here.1) in
-    let many : length (take (c.group_end-to.result - c.loop-from.from)
-    (drop c.loop-from.from edges))
-    ≡ c.group_end-to.result - c.loop-from.from =
-    length-take-le (c.group_end-to.result - c.loop-from.from) (drop c.loop-from.from edges)
-    (omega (
-      arith,
-      length-drop c.loop-from.from edges,
-      c.group_end-to.ensures.within,
-      c.group_end-to.ensures.later,
-    )) in
-    let ne : value_at all x ≢ value_at voids x = λ e.
+    let all_x : c.in_ok-three.three ≡ value_at (all g r) x =
+    value_there (λ a ls ts. value a ls (map trit ts)) shapes E x c.in_ok-three.three hx
+    c.in_ok-three.ensures.three in
+    let void_x : c.in_ok-three.void ≡ value_at (voids g r) x =
+    value_there (λ a ls ts. value a ls (without_splitter (map trit ts))) shapes E x
+    c.in_ok-three.void hx c.in_ok-three.ensures.void in
+    let ne : value_at (all g r) x ≢ value_at (voids g r) x = λ e.
     (let same = c.is_same.ensures.1 (all_x ∙ e ∙ sym void_x) in cc) in
     record {
       in_range = c.group_end-to.ensures.within;
@@ -254,14 +226,14 @@ loop-from-preserved-in_ok-push g c =
         arith,
         c.in_ok-three.ensures.counted,
         c.loop-from.invariant.rise,
-        many,
+        many g (goal.at.loop-from-preserved-in_ok-push g c).After-group_end-to,
         c.group_end-to.ensures.later,
       );
       sizes = c.in_ok-three.ensures.sizes;
       updating = (
         x + 1,
-        rw c.in_ok-push.ensures.items (leaves toward shapes E p q s edges c.requires.edges all voids
-            untouched rises
+        rw c.in_ok-push.ensures.items (leaves toward shapes E p q s edges c.requires.edges (all g r)
+            (voids g r) (untouched g r) (rises g r)
             c.loop-from.from inv.0 c.loop-from.cells.of.items
             c.loop-from.cells.weights.items c.loop-from.moved.items inv.1
             c.group_end-to.result c.group_end-to.ensures.later
@@ -293,18 +265,10 @@ returns-clause-cells g c =
     let edges = c.args.edges.now in
     let shapes = c.args.shapes.now in
     let toward = g.I.Iface.toward c.args.iface.now in
-    let value = g.I.Iface.value c.args.iface.now in
-    let trit = trit_in p q s c.args.c in
-    let all : List Three = round_values value (system_from 0 shapes E) trit in
-    let voids : List Three = round_voids value (system_from 0 shapes E) trit in
-    let untouched : (y : ℕ) → y < states_of p →
-    ((e : ℕ) → e < length E → source_at E e ≡ y → block_at p (target_at E e) ≢ s) →
-    value_at all y ≡ value_at voids y = λ y hy away.
-    untouched_alike value shapes E p q s c.args.c y
-    (omega (arith, hy, c.requires.in_blocks, c.requires.one_shape)) away in
-    let rises = sources_rise E c.is_stored.ensures.ascending in
+    let r = (goal.at.returns-clause-cells g c).After-is_stored in
     let inv = c.loop-from.invariant.updating in
-    cells_all toward shapes E p q s edges c.requires.edges all voids untouched rises
+    cells_all toward shapes E p q s edges c.requires.edges (all g r)
+    (voids g r) (untouched g r) (rises g r)
     c.loop-from.from inv.0 c.loop-from.cells.of.items
     c.loop-from.cells.weights.items c.loop-from.moved.items inv.1 (omega arith)
 
@@ -317,17 +281,9 @@ returns-clause-moved g c =
     let edges = c.args.edges.now in
     let shapes = c.args.shapes.now in
     let toward = g.I.Iface.toward c.args.iface.now in
-    let value = g.I.Iface.value c.args.iface.now in
-    let trit = trit_in p q s c.args.c in
-    let all : List Three = round_values value (system_from 0 shapes E) trit in
-    let voids : List Three = round_voids value (system_from 0 shapes E) trit in
-    let untouched : (y : ℕ) → y < states_of p →
-    ((e : ℕ) → e < length E → source_at E e ≡ y → block_at p (target_at E e) ≢ s) →
-    value_at all y ≡ value_at voids y = λ y hy away.
-    untouched_alike value shapes E p q s c.args.c y
-    (omega (arith, hy, c.requires.in_blocks, c.requires.one_shape)) away in
-    let rises = sources_rise E c.is_stored.ensures.ascending in
+    let r = (goal.at.returns-clause-moved g c).After-is_stored in
     let inv = c.loop-from.invariant.updating in
-    moved_all toward shapes E p q s edges c.requires.edges all voids untouched rises
+    moved_all toward shapes E p q s edges c.requires.edges (all g r)
+    (voids g r) (untouched g r) (rises g r)
     c.loop-from.from inv.0 c.loop-from.cells.of.items
     c.loop-from.cells.weights.items c.loop-from.moved.items inv.1 (omega arith)
