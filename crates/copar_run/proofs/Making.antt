@@ -3,7 +3,7 @@ use Rattle.std.proofs.Common.{◌≡◌, ◌≢◌, ◌⊎◌, inl, inr, ℕ, �
 use Rattle.std.specs.FinMap as map
 use Rattle.outside.specs.Faults.{Rose}
 use Rattle.outside.specs.Whole.{IsLongerThan}
-use Rattle.command_line.specs.Requests.{Request, asked, Asks}
+use Rattle.command_line.specs.Requests.{Request, Task, asked, Asks}
 use Rattle.typing.specs.Contents.{Content, words_of}
 use Rattle.copar_run.specs.declared.status.Status.{Status}
 use Rattle.copar_run.specs.declared.status.Status.TheVariants as status
@@ -11,7 +11,7 @@ use Rattle.copar_run.specs.declared.status.Status.TheVariants.{Done, Grammar, Ty
 use Rattle.structure_parser.specs.Reads.{Reads, Fault, IsFault, most_bytes}
 use Rattle.copar_run.specs.Reading.{Tells, status_of}
 use Rattle.copar_run.specs.Outputs.{Subject, MayEnd, Prints}
-use Rattle.copar_run.specs.Outcome.{Counts, Files, Outside, NoReadFailed, NoWriteFailed, Stage, Form, stages_of, Holds, Denotes, IsBadLine, Cause, Clear, FailedRead, Stops, Passes, Reached, PassesAll, IsOfOne, IsOfTwo, IsSubject, Ends, Ran, met}
+use Rattle.copar_run.specs.Outcome.{Counts, Files, Outside, NoReadFailed, NoWriteFailed, Stage, Form, later_stages, stages_of, Holds, Denotes, IsBadLine, Cause, Clear, FailedRead, Stops, Passes, Reached, PassesAll, IsOfOne, IsOfTwo, IsSubject, Ends, Ran, met}
 use Rattle.copar_run.specs.Named.{AreNamed}
 use Rattle.copar_run.specs.Lines.{line_of, line_at, told_line, stranger_line, IsLine}
 use Rattle.copar_run.specs.Standing.{IsMade, IsHalted, IsStrange}
@@ -267,6 +267,22 @@ module _ (o : Outside) where
         );
         read = read;
       }))
+
+  -- a task that reads the file alone
+  pub make-of-one : (file : List ℕ) (c : Content)
+      → IfSome o.files (λ files. Denotes files file c)
+      → (told task : Task) → told ≡ task → later_stages file task ≡ []
+      → ((files : Files) → IsOfOne files file (Subject.One c)
+      → IsSubject files (Request.OnFile file task) (Subject.One c))
+      → MayEnd (Request.OnFile file task) Done → (rise : ℕ) (output : List ℕ)
+      → Prints (Request.OnFile file task) (Subject.One c) rise Done output → NoReadFailed o
+      → (s : Status) (text : List ℕ) → s ≡ Done → text ≡ output
+      → IsMade (Request.OnFile file told) (later_stages file told) o rise s text
+  make-of-one file c there told task same none about may rise output prints read s text done is =
+      subst (λ t. IsMade (Request.OnFile file t) (later_stages file t) o rise s text) (sym same)
+      (make (Request.OnFile file task) (later_stages file task) (Subject.One c) rise Done output
+      (subst (λ stages. PassesAll o stages) (sym none) tt)
+      (about-one file c there (Request.OnFile file task) about) may prints read s text done is)
 
 -- no read fails where no count changed
 module _ (files : Option Files) (a b now : List ℕ → ℕ) (same : (name : List ℕ) → b name ≡ a name)

@@ -127,6 +127,23 @@ fn put_text<E: Sink>(err: &mut E, text: &[u8])
     let _whole = put_all(err, text);
 }
 
+/// Writes three texts, one behind the other.
+fn put_three<E: Sink>(err: &mut E, first: &[u8], second: &[u8], third: &[u8])
+    ensures whole { IsQuiet (E.faults err.old) (E.faults err.new) → E.taken err.new
+        ≡ append_known (E.taken err.old) (first.now ++ second.now ++ third.now) }
+    ensures front { (n : ℕ) × (E.taken err.new
+        ≡ append_known (E.taken err.old) (take n (first.now ++ second.now ++ third.now))) }
+    ensures no_count_falls { E.faults err.old ≤ E.faults err.new }
+{
+    if !put_all(err, first) {
+        return;
+    }
+    if !put_all(err, second) {
+        return;
+    }
+    put_text(err, third);
+}
+
 /// Writes a text, a number and what ends the line.
 fn put_numbered<E: Sink>(err: &mut E, text: &[u8], number: u32, ending: &[u8])
     ensures whole { IsQuiet (E.faults err.old) (E.faults err.new) →
@@ -136,14 +153,8 @@ fn put_numbered<E: Sink>(err: &mut E, text: &[u8], number: u32, ending: &[u8])
         ≡ append_known (E.taken err.old) (take n (text.now ++ decimal number ++ ending.now))) }
     ensures no_count_falls { E.faults err.old ≤ E.faults err.new }
 {
-    if !put_all(err, text) {
-        return;
-    }
     let mut buffer = Buffer::new();
-    if !put_all(err, buffer.format(number).as_bytes()) {
-        return;
-    }
-    let _whole = put_all(err, ending);
+    put_three(err, text, buffer.format(number).as_bytes(), ending);
 }
 
 /// Writes the line of a word that names no state.
@@ -154,11 +165,5 @@ fn put_stranger<E: Sink>(err: &mut E, word: &str)
         (E.taken err.new ≡ append_known (E.taken err.old) (take n (stranger_line word.now))) }
     ensures no_count_falls { E.faults err.old ≤ E.faults err.new }
 {
-    if !put_all(err, b"copar: unknown state ") {
-        return;
-    }
-    if !put_all(err, word.as_bytes()) {
-        return;
-    }
-    put_text(err, b"\n");
+    put_three(err, b"copar: unknown state ", word.as_bytes(), b"\n");
 }

@@ -166,6 +166,7 @@ fn block_list(alloc: Global, c: &Coalgebra, found: &Refinement) -> Result<Vec<u8
     requires found { IsFound (content_of c.now) found.now }
     ensures { IfOk result (λ output. IsBlockList (content_of c.now) output.items) }
 {
+    c.names.are_names();
     let labels = classes(alloc, c, found)?;
     blocks_text(alloc, &c.names, labels.as_slice())
 }
@@ -209,8 +210,7 @@ fn minimised(alloc: Global, c: &Coalgebra, found: &Refinement) -> Result<Vec<u8>
     let labels = classes(alloc, c, found)?;
     let d = quotient(alloc, c, labels.as_slice())?;
     d.term.is_term();
-    // names are what they are
-    let _names = d.names.len();
+    d.names.are_names();
     quotient_text(alloc, &d)
 }
 
@@ -242,8 +242,8 @@ fn explained(
     let pairs = pairs_of(alloc, numbers)?;
     let told = state_formulas(alloc, c, &found.system, &found.refined)?;
     let explanation = explain_pairs(alloc, c, &told, pairs.as_slice())?;
-    // names and formulas are what they are
-    let (_names, _formulas) = (c.names.len(), explanation.dag.len());
+    c.names.are_names();
+    explanation.dag.is_dag();
     explanation_text(
         alloc,
         &c.names,
@@ -261,8 +261,8 @@ fn certified(alloc: Global, c: &Coalgebra, found: &Refinement) -> Result<Vec<u8>
     block_lines_can_be_said();
     let told = state_formulas(alloc, c, &found.system, &found.refined)?;
     let certificate = certify_classes(alloc, c, &told)?;
-    // names and formulas are what they are
-    let (_names, _formulas) = (c.names.len(), certificate.dag.len());
+    c.names.are_names();
+    certificate.dag.is_dag();
     certificate_text(
         alloc,
         &c.names,

@@ -60,6 +60,7 @@ impl<'a> Evaluator<'a> {
         ensures dag { IfOk result (λ e. e.dag ≡ dag.now) }
         ensures next { IfOk result (λ e. e.next ≡ 0) }
     {
+        dag.is_dag();
         let structures = laid_out(alloc, c)?;
         let last_uses = last_uses(alloc, dag)?;
         Ok(Evaluator {

@@ -37,6 +37,7 @@ fn note_uses(last_uses: &mut [u32], f: &Formula, k: u32)
 pub(crate) fn last_uses(alloc: Global, dag: &Dag) -> Result<Vec<u32>, AllocError>
     ensures { IfOk result (λ v. AreLastUses dag.now (length dag.now) v.items) }
 {
+    dag.is_dag();
     let mut last_uses = Vec::with_capacity(alloc, dag.len() as usize)?;
     for k in 0..dag.len() {
         note_uses(last_uses.as_mut_slice(), dag.formula(k), k);

@@ -44,6 +44,7 @@ fn fit_at(
     requires { p < length term.now }
     ensures { Gives result (fitting term.now names.now p tree.now) }
 {
+    term.is_term();
     let node = term.node(p);
     match node {
         Node::State => state(names, tree),
@@ -72,6 +73,7 @@ fn fit_child(
     requires { p < length term.now }
     ensures { Gives result (child_fit term.now names.now p k tree.now) }
 {
+    term.is_term();
     match at(term.children(p), k) {
         Some(child) => fit_at(alloc, term, names, *child, tree),
         None => Err(FitFault::Misfit(TypeKind::WrongShape)),

@@ -19,6 +19,7 @@ pub(crate) fn sums_at(term: &Term, p: u32, l: u64, value: &Value) -> bool
     requires bounded { IsTrue (is_bounded value.now) }
     ensures { result ≡ sums_hold are_any l term.now p value.now }
 {
+    term.is_term();
     match term.node(p) {
         Node::State | Node::Constant(_) | Node::Naturals => true,
         Node::Product => sums_in_places(term, p, l, value.parts()),
@@ -40,6 +41,7 @@ fn sums_at_child(term: &Term, p: u32, k: u32, l: u64, value: &Value) -> bool
     requires bounded { IsTrue (is_bounded value.now) }
     ensures { result ≡ child_sums l term.now p k value.now }
 {
+    term.is_term();
     match at(term.children(p), k as usize) {
         Some(child) => sums_at(term, *child, l, value),
         None => false,
@@ -54,6 +56,7 @@ fn sums_in_places(term: &Term, p: u32, l: u64, values: &[Value]) -> bool
     ensures { result
         ≡ each_holds (map (sums_hold are_any l term.now) (children_at term.now p)) values.now }
 {
+    term.is_term();
     let (mut children, mut rest) = (term.children(p), values);
     while let Some((child, more_children)) = children.split_first() {
         let Some((value, more)) = rest.split_first() else {

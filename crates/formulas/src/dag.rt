@@ -45,8 +45,7 @@ impl Dag {
 
     /// How many formulas there are: fewer than 2^32.
     pub fn len(&self) -> u32
-        ensures count { result ≡ length self.now }
-        ensures ordered { IsDag self.now }
+        ensures { result ≡ length self.now }
     {
         self.items.len() as u32
     }

@@ -12,6 +12,7 @@ impl<'a> Labels<'a> {
     pub fn try_copy(&self, alloc: Global) -> Result<Labels<'a>, AllocError>
         ensures { IfOk result (λ copy. copy ≡ self.now) }
     {
+        self.are_names();
         let mut copy = Labels::new(alloc);
         let count = self.len();
         for i in 0..count {

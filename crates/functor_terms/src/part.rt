@@ -130,6 +130,7 @@ fn are_labels(labels: &LabelSet) -> bool
 {
     match labels {
         LabelSet::Listed(words) => {
+            words.are_names();
             let count = words.len();
             0 < count && count <= LABEL_LIMIT
         }

@@ -31,8 +31,7 @@ impl<'a> Term<'a> {
 
     /// How many nodes there are, from 1 to 256.
     pub fn len(&self) -> u32
-        ensures count { result ≡ length self.now }
-        ensures term { IsTerm self.now }
+        ensures { result ≡ length self.now }
     {
         self.nodes.len() as u32
     }
@@ -40,8 +39,7 @@ impl<'a> Term<'a> {
     /// The node with a number.
     pub fn node(&self, p: u32) -> &Node<'a>
         requires { p < length self.now }
-        ensures node { result.now ≡ node_at self.now p }
-        ensures term { IsTerm self.now }
+        ensures { result.now ≡ node_at self.now p }
     {
         &self.nodes[p as usize].node
     }
@@ -51,7 +49,6 @@ impl<'a> Term<'a> {
         requires { p < length self.now }
         ensures children { result.now ≡ children_at self.now p }
         ensures few { length result.now ≤ 256 }
-        ensures term { IsTerm self.now }
     {
         self.nodes[p as usize].children.as_slice()
     }

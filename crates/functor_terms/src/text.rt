@@ -5,7 +5,7 @@
 //! it is as deep as the term.
 ghost use Rattle.std.specs.Prelude.{◌≡◌, ℕ, List, ◌<◌, ◌++◌, ◌==◌, [], length, map, IfOk, OnOk, codes, if◌then◌else◌};
 ghost use Rattle.std.specs.List.{join_by};
-ghost use Rattle.functor_terms.specs.Terms.{children_at, IsTerm};
+ghost use Rattle.functor_terms.specs.Terms.{children_at};
 ghost use Rattle.functor_terms.specs.Grammar.{SpellsTerm};
 ghost use Rattle.functor_terms.specs.Text.{text_of_term, shown_at, node_text, label_text, enclosed, only, within, level_of as the_level_of};
 
@@ -121,6 +121,7 @@ fn push_weights(text: &mut Vec<u8>, letter: &[u8], term: &Term, p: u32) -> Resul
     ensures { OnOk result (text.new.items ≡ text.old.items ++ letter.now
         ++ (only (map (shown_at term.now) (children_at term.now p))).text ++ codes ")") }
 {
+    term.is_term();
     text.extend_from_slice(letter)?;
     push_child(text, SUM_LEVEL, term, p)?;
     text.extend_from_slice(b")".as_slice())
@@ -131,10 +132,10 @@ fn push_weights(text: &mut Vec<u8>, letter: &[u8], term: &Term, p: u32) -> Resul
 #[cycle(text)]
 fn push_child(text: &mut Vec<u8>, level: u32, term: &Term, p: u32) -> Result<(), AllocError>
     requires { p < length term.now }
-    ensures text { OnOk result (text.new.items ≡ text.old.items
+    ensures { OnOk result (text.new.items ≡ text.old.items
         ++ within level (only (map (shown_at term.now) (children_at term.now p)))) }
-    ensures term { IsTerm term.now }
 {
+    term.is_term();
     match term.children(p).split_first() {
         Some((child, _)) => push_within(text, level, term, *child),
         None => Ok(()),
@@ -154,6 +155,7 @@ fn push_parts(
     ensures { OnOk result (text.new.items ≡ text.old.items ++ join_by (within level) separator.now
         (map (shown_at term.now) (children_at term.now p))) }
 {
+    term.is_term();
     let children = term.children(p);
     for (i, child) in children.iter().enumerate() {
         push_before(text, i, separator)?;
@@ -169,6 +171,7 @@ fn push_within(text: &mut Vec<u8>, level: u32, term: &Term, p: u32) -> Result<()
     requires { p < length term.now }
     ensures { OnOk result (text.new.items ≡ text.old.items ++ within level (shown_at term.now p)) }
 {
+    term.is_term();
     let node = term.node(p);
     if level_of(node) <= level {
         return push_over(text, node, term, p);
@@ -183,6 +186,7 @@ pub fn term_text(alloc: Global, term: &Term) -> Result<Vec<u8>, AllocError>
     ensures text { IfOk result (λ text. text.items ≡ text_of_term term.now) }
     ensures spells { IfOk result (λ text. SpellsTerm text.items term.now) }
 {
+    term.is_term();
     // each node has a byte at least
     let mut text = Vec::with_capacity(alloc, term.len() as usize)?;
     push_within(&mut text, SUM_LEVEL, term, 0)?;

@@ -19,6 +19,7 @@ pub fn are_equal(term: &Term, p: u32, u: &Value, v: &Value) -> bool
     requires right { IsTrue (is_bounded v.now) }
     ensures { result ≡ the_are_equal term.now p u.now v.now }
 {
+    term.is_term();
     match term.node(p) {
         Node::State => u.state() == v.state(),
         Node::Constant(_) | Node::Naturals => u.label() == v.label(),
@@ -40,6 +41,7 @@ fn equal_at(term: &Term, p: u32, k: u32, u: &Value, v: &Value) -> bool
     requires right { IsTrue (is_bounded v.now) }
     ensures { result ≡ child_test term.now p k u.now v.now }
 {
+    term.is_term();
     match at(term.children(p), k as usize) {
         Some(child) => are_equal(term, *child, u, v),
         None => true,
@@ -55,6 +57,7 @@ fn equal_places(term: &Term, p: u32, us: &[Value], vs: &[Value]) -> bool
     ensures { result ≡
         each_place (map (the_are_equal term.now) (children_at term.now p)) us.now vs.now }
 {
+    term.is_term();
     let (mut children, mut left, mut right) = (term.children(p), us, vs);
     while let Some((child, more)) = children.split_first() {
         match (left.split_first(), right.split_first()) {

@@ -1,6 +1,5 @@
 //! The text of the block list.
 ghost use Rattle.std.specs.Prelude.{◌≡◌, ◌<◌, ◌^◌, ◌++◌, length, slice_index, EachIndex, IsTrue, IfOk, OnOk};
-ghost use Rattle.functor_terms.specs.Words.{AreNames};
 ghost use Rattle.quotient_writer.specs.Quotient.{is_numbered};
 ghost use Rattle.quotient_writer.specs.Blocks.{block_line, block_text, first_state, first_states};
 
@@ -14,7 +13,6 @@ pub fn blocks_text(alloc: Global, names: &Names, labels: &[u32]) -> Result<Vec<u
     requires numbered { IsTrue (is_numbered labels.now) }
     ensures line_for_each { IfOk result (λ text.
         text.items ≡ block_text names.now (first_states labels.now)) }
-    ensures distinct { IfOk result (λ _. AreNames names.now) }
 {
     let states = names.len();
     let firsts = first_of_each(alloc, states, labels)?;

@@ -27,6 +27,7 @@ pub fn quotient<'a>(
     ensures values { IfOk result (λ d. AllZip (IsRelabelledAt c.now.term labels.now 0)
         (picked labels.now c.now.values.items) d.values.items) }
 {
+    c.names.are_names();
     let mut names = Names::new(alloc);
     let mut values = Vec::new(alloc);
     let states = c.names.len();

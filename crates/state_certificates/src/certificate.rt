@@ -51,6 +51,7 @@ pub fn certify_classes(
 {
     cited_formulas_are_old();
     let dag = told.dag();
+    dag.is_dag();
     // The formulas stand in their order.
     let count = dag.len();
     let keys = formulas_of(alloc, told, c.names.len())?;

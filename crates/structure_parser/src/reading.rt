@@ -47,6 +47,7 @@ fn coalgebra_of<'a>(
     ensures fault { IfErr result (λ fault.
         TellsSum fault (short_kept fits.l term.entry fits.kept.items)) }
 {
+    names.are_names();
     let own = own_numbers(alloc, names.len())?;
     let Fits { l, kept } = fits;
     let values = values_of(alloc, &term, own.as_slice(), l, kept)?;

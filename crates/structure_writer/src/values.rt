@@ -26,6 +26,7 @@ pub(crate) fn push_value(
     ensures { OnOk result (text.new.items
         ≡ text.old.items ++ text_at l names.now term.now p value.now) }
 {
+    term.is_term();
     match term.node(p) {
         Node::State => push_name(text, names, value.state()),
         Node::Constant(labels) => push_label(text, labels, value.label()),
@@ -56,6 +57,7 @@ fn push_child(
     ensures { OnOk result (text.new.items
         ≡ text.old.items ++ write_at (child_texts l names.now term.now p) k value.now) }
 {
+    term.is_term();
     match at(term.children(p), k) {
         Some(child) => push_value(text, term, names, l, *child, value),
         None => Ok(()),

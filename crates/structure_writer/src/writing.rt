@@ -1,6 +1,5 @@
 //! The canonical text of a coalgebra.
 ghost use Rattle.std.specs.Prelude.{◌≡◌, ◌≤◌, ◌<◌, ◌++◌, length, IfOk, OnOk};
-ghost use Rattle.functor_terms.specs.Terms.{IsTerm};
 ghost use Rattle.typing.specs.Contents.{content_of};
 ghost use Rattle.structure_writer.specs.Text.{text_at, state_line, canonical};
 ghost use Rattle.structure_writer.specs.Spelled.{Spells};
@@ -16,6 +15,8 @@ pub fn write_file(alloc: Global, c: &Coalgebra) -> Result<Vec<u8>, AllocError>
     ensures canonical { IfOk result (λ text. text.items ≡ canonical (content_of c.now)) }
     ensures spells { IfOk result (λ text. Spells text.items (content_of c.now)) }
 {
+    c.term.is_term();
+    c.names.are_names();
     let mut text = term_text(alloc, &c.term)?;
     text.push(b'\n')?;
     for i in 0..c.names.len() {
@@ -42,11 +43,10 @@ fn push_line(
     value: &Value,
 ) -> Result<(), AllocError>
     requires positive { 1 ≤ l }
-    ensures line { OnOk result (text.new.items
+    ensures { OnOk result (text.new.items
         ≡ text.old.items ++ state_line name.now (text_at l names.now term.now 0 value.now)) }
-    ensures term { IsTerm term.now }
 {
-    let nodes = term.len();
+    term.is_term();
     text.extend_from_slice(name)?;
     text.extend_from_slice(b": ".as_slice())?;
     push_value(text, term, names, l, 0, value)?;

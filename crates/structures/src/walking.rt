@@ -57,7 +57,6 @@ fn follow<'a>(
     ensures few { IfOk result (λ _. length places.new < 2 ^ 26) }
     ensures few_edges { IfOk result (λ _. length targets.new.items < 2 ^ 26) }
 {
-    let _states = values.len();
     term.is_term();
     let mut next = 0;
     while next < places.len() {
@@ -104,7 +103,6 @@ pub fn structures_of<'a>(alloc: Global, c: &'a Coalgebra) -> Result<Structures<'
     ensures structures { IfOk result (λ s. AreStructures c.now.term c.now.values.items s.places
         s.sources.items s.targets.items) }
 {
-    let _states = c.names.len();
     c.term.is_term();
     let found = walked(alloc, &c.term, c.values.as_slice())?;
     Ok(found)

@@ -12,7 +12,7 @@ use Rattle.functor_terms.proofs.Folds.{fold-related}
 use Rattle.typing.specs.declared.value.Value.{Value}
 use Rattle.typing.specs.Values.{index, inner, parts, entries}
 use Rattle.typing.specs.Bounds.{are_positive, are_from_zero, joint_weight, each_holds, entries_hold, sums_step, any_weights, sums_hold}
-use Rattle.typing.specs.Fits.{Check, no_check, check_at}
+use Rattle.typing.specs.Fits.{Check, check_at}
 use Rattle.typing.proofs.Coarser.{all_where}
 
 none_below : (n : ℕ) → nat_lt n 0 ≡ false

@@ -12,7 +12,7 @@
 -- sorted_count t vs       == how many of them are merged into no other
 -- edge_count t vs         == how many places at which edges leave these have
 -- AreFew t vs             == each of the three numbers is below 2^26
-use Rattle.std.specs.Prelude.{ℕ, zero, suc, ◌+◌, ◌-◌, ◌<◌, ◌==◌, ◌^◌, Bool, true, false, not, if◌then◌else◌, List, [], ◌∷◌, length, map, filter, slice_get, Option}
+use Rattle.std.specs.Prelude.{ℕ, zero, suc, ◌+◌, ◌-◌, ◌<◌, ◌==◌, ◌^◌, Bool, true, false, not, if◌then◌else◌, List, [], ◌∷◌, length, map, filter, slice_get}
 use Rattle.std.specs.List.{zip, flat_map}
 use Rattle.std.specs.Option.{option_map_or}
 use Rattle.functor_terms.specs.declared.node.Node.{Node}

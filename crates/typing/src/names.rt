@@ -33,10 +33,16 @@ impl<'a> Names<'a> {
         }
     }
 
+    /// What holds of the names of every file. Nothing is read or done.
+    pub fn are_names(&self)
+        ensures { AreNames self.now }
+    {
+        self.words.are_names();
+    }
+
     /// How many states there are.
     pub fn len(&self) -> u32
-        ensures count { result ≡ length self.now }
-        ensures names { AreNames self.now }
+        ensures { result ≡ length self.now }
     {
         self.words.len()
     }
@@ -51,8 +57,7 @@ impl<'a> Names<'a> {
     /// The name of a state.
     pub fn name(&self, i: u32) -> &'a [u8]
         requires { i < length self.now }
-        ensures name { slice_get self.now i ≡ Some result.now }
-        ensures names { AreNames self.now }
+        ensures { slice_get self.now i ≡ Some result.now }
     {
         self.words.word(i)
     }

@@ -16,6 +16,7 @@ pub fn compare(term: &Term, p: u32, u: &Value, v: &Value) -> Ordering
     requires { p < length term.now }
     ensures { result ≡ the_compare term.now p u.now v.now }
 {
+    term.is_term();
     match term.node(p) {
         Node::State => u.state().cmp(&v.state()),
         Node::Constant(_) | Node::Naturals => u.label().cmp(&v.label()),
@@ -37,6 +38,7 @@ pub(crate) fn compare_child(term: &Term, p: u32, k: u32, u: &Value, v: &Value) -
     requires { p < length term.now }
     ensures { result ≡ (child_form term.now p k).compare u.now v.now }
 {
+    term.is_term();
     match at(term.children(p), k as usize) {
         Some(child) => compare(term, *child, u, v),
         None => Ordering::Equal,
@@ -49,6 +51,7 @@ fn compare_places(term: &Term, p: u32, us: &[Value], vs: &[Value]) -> Ordering
     requires { p < length term.now }
     ensures { result ≡ each_cmp (map (form term.now) (children_at term.now p)) us.now vs.now }
 {
+    term.is_term();
     let (mut children, mut left, mut right) = (term.children(p), us, vs);
     while let Some((child, more)) = children.split_first() {
         match (left.split_first(), right.split_first()) {

@@ -49,6 +49,7 @@ fn relabel_at(
     requires ready { IsTrue (is_ready (length labels.now) (fits term.now p) value.now) }
     ensures { IfOk result (IsRelabelledAt term.now labels.now p value.now) }
 {
+    term.is_term();
     let node = term.node(p);
     match value {
         Value::State(i) => Ok(Value::State(labels[*i as usize])),
@@ -92,6 +93,7 @@ fn relabel_child(
     requires ready { IsTrue (is_ready (length labels.now) (child_check term.now p k) value.now) }
     ensures { IfOk result (IsRelabelledChild term.now labels.now p k value.now) }
 {
+    term.is_term();
     let children = term.children(p);
     let child = children[k as usize];
     relabel_at(alloc, term, child, value, labels)
@@ -112,6 +114,7 @@ fn relabel_places(
     ensures { IfOk result (λ new. Zip3 (IsRelabelledAt term.now labels.now)
         (children_at term.now p) values.now new.items) }
 {
+    term.is_term();
     let mut new = Vec::with_capacity(alloc, values.len())?;
     let (mut children, mut rest) = (term.children(p), values);
     while let Some((child, more_children)) = children.split_first() {

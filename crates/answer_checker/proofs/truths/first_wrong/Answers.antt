@@ -36,7 +36,7 @@ overflow_add-next c =
     (cited_there (formulas_in c.args.blocks.now) items c.in_ok-cited.cited.items i d
     c.as_slice-citation-items.ensures.value c.in_ok-cited.ensures.cited c.loop-citation-test.true)
     in
-    omega (arith, below, c.len-count.ensures.count, c.len-count.type_inv)
+    omega (arith, below, c.len-count.ensures, c.len-count.type_inv)
 
 pub loop-citation-preserved : goal.loop-citation-preserved
 loop-citation-preserved c =

@@ -17,7 +17,7 @@ first_places-requires-clause-enough c =
           now.term now.values.items desorted.occurrences c.is_term.ensures desorted.sorting
           refined.block_of
           (great (content_of now) c.args.refinement.now.system desorted refined c.requires.refined),
-      c.len-n.ensures.count,
+      c.len-n.ensures,
       now.one_each,
       ap length c.block_of.ensures,
     )
@@ -29,7 +29,7 @@ returns-clause-stable c =
     (content_of now) c.args.refinement.now.system c.requires.desorted c.is_term.ensures
     (each_below now.values.items _ now.one_each now.in_range) c.args.refinement.now.refined
     c.requires.refined c.block_of.result.now c.len-n.result c.in_ok-firsts.firsts.items
-    c.block_of.ensures (c.len-n.ensures.count ∙ sym now.one_each) c.in_ok-firsts.ensures).stable
+    c.block_of.ensures (c.len-n.ensures ∙ sym now.one_each) c.in_ok-firsts.ensures).stable
 
 pub returns-clause-coarsest : goal.returns-clause-coarsest
 returns-clause-coarsest c =
@@ -38,7 +38,7 @@ returns-clause-coarsest c =
     (content_of now) c.args.refinement.now.system c.requires.desorted c.is_term.ensures
     (each_below now.values.items _ now.one_each now.in_range) c.args.refinement.now.refined
     c.requires.refined c.block_of.result.now c.len-n.result c.in_ok-firsts.firsts.items
-    c.block_of.ensures (c.len-n.ensures.count ∙ sym now.one_each) c.in_ok-firsts.ensures).coarsest
+    c.block_of.ensures (c.len-n.ensures ∙ sym now.one_each) c.in_ok-firsts.ensures).coarsest
 
 pub returns-clause-first : goal.returns-clause-first
 returns-clause-first c =
@@ -47,4 +47,4 @@ returns-clause-first c =
     (content_of now) c.args.refinement.now.system c.requires.desorted c.is_term.ensures
     (each_below now.values.items _ now.one_each now.in_range) c.args.refinement.now.refined
     c.requires.refined c.block_of.result.now c.len-n.result c.in_ok-firsts.firsts.items
-    c.block_of.ensures (c.len-n.ensures.count ∙ sym now.one_each) c.in_ok-firsts.ensures).first
+    c.block_of.ensures (c.len-n.ensures ∙ sym now.one_each) c.in_ok-firsts.ensures).first

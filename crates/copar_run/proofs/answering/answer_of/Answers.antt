@@ -9,7 +9,7 @@ use Rattle.copar_run.specs.Named.{AreNumbers}
 use Rattle.copar_run.specs.Lines.{told_line}
 use Rattle.copar_run.specs.Standing.{IsHalted, IsMade, IsStrange}
 use Rattle.copar_run.specs.Outcome.{Stage, later_stages, met}
-use Rattle.copar_run.proofs.Making.{found, halt-at-finding, about-one, make}
+use Rattle.copar_run.proofs.Making.{found, halt-at-finding, about-one, make, make-of-one}
 use Rattle.copar_run.proofs.Finding.{are-named}
 use Rattle.copar_run.proofs.AnswerLaws.{numbers-named}
 use Rattle.copar_run.proofs.answering.answer_of.Goals as goal
@@ -17,72 +17,43 @@ use Rattle.copar_run.proofs.answering.answer_of.Goals as goal
 pub returns-in_ok-blocks_output-in-Blocks-clause-made :
     goal.returns-in_ok-blocks_output-in-Blocks-clause-made
 returns-in_ok-blocks_output-in-Blocks-clause-made g c =
-    let files = g.F.Folder.files c.args.folder.now in
-    let o = met files (g.F.Folder.faults c.args.folder.now)
-    (g.F.Folder.faults c.args.folder.now) in
-    let source = content_of c.args.c.now in
-    let file = c.args.file.now in
-    let task = Task.Blocks c.in-Blocks.stats in
-    let request = Request.OnFile file task in
-    let same : denoted_task c.args.task.now ≡ task = ap denoted_task c.in-Blocks.is in
+    let faults = g.F.Folder.faults c.args.folder.now in
     let (rise, risen, prints) = c.in_ok-blocks_output-in-Blocks.ensures.prints in (
       rise,
       risen,
-      subst (λ t. IsMade (Request.OnFile file t) (later_stages file t) o rise c.done.result.status
-          c.done.result.text.items) (sym same)
-          (make o request [] (Subject.One source) rise Done
-          c.in_ok-blocks_output-in-Blocks.field-0.items tt
-          (about-one o file source c.requires.read request (λ fs is. is)) refl prints (λ name. refl)
-          _ _
-          c.done.ensures.done c.done.ensures.same),
+      make-of-one (met (g.F.Folder.files c.args.folder.now) faults faults) c.args.file.now
+          (content_of c.args.c.now) c.requires.read (denoted_task c.args.task.now)
+          (Task.Blocks c.in-Blocks.stats) (ap denoted_task c.in-Blocks.is) refl (λ files is. is)
+          refl rise c.in_ok-blocks_output-in-Blocks.field-0.items prints (λ name. refl) _ _
+          c.done.ensures.done c.done.ensures.same,
     )
 
 pub returns-in_ok-minimal_output-in-Minimise-clause-made :
     goal.returns-in_ok-minimal_output-in-Minimise-clause-made
 returns-in_ok-minimal_output-in-Minimise-clause-made g c =
-    let files = g.F.Folder.files c.args.folder.now in
-    let o = met files (g.F.Folder.faults c.args.folder.now)
-    (g.F.Folder.faults c.args.folder.now) in
-    let source = content_of c.args.c.now in
-    let file = c.args.file.now in
-    let task = Task.Minimise c.in-Minimise.stats in
-    let request = Request.OnFile file task in
-    let same : denoted_task c.args.task.now ≡ task = ap denoted_task c.in-Minimise.is in
+    let faults = g.F.Folder.faults c.args.folder.now in
     let (rise, risen, prints) = c.in_ok-minimal_output-in-Minimise.ensures.prints in (
       rise,
       risen,
-      subst (λ t. IsMade (Request.OnFile file t) (later_stages file t) o rise
-          c.done-in-Minimise.result.status
-          c.done-in-Minimise.result.text.items) (sym same)
-          (make o request [] (Subject.One source) rise Done
-          c.in_ok-minimal_output-in-Minimise.field-0.items tt
-          (about-one o file source c.requires.read request (λ fs is. is)) refl prints (λ name. refl)
-          _ _
-          c.done-in-Minimise.ensures.done c.done-in-Minimise.ensures.same),
+      make-of-one (met (g.F.Folder.files c.args.folder.now) faults faults) c.args.file.now
+          (content_of c.args.c.now) c.requires.read (denoted_task c.args.task.now)
+          (Task.Minimise c.in-Minimise.stats) (ap denoted_task c.in-Minimise.is) refl
+          (λ files is. is) refl rise c.in_ok-minimal_output-in-Minimise.field-0.items prints (λ name. refl) _ _
+          c.done-in-Minimise.ensures.done c.done-in-Minimise.ensures.same,
     )
 
 pub returns-in_ok-certified_output-in-Certify-clause-made :
     goal.returns-in_ok-certified_output-in-Certify-clause-made
 returns-in_ok-certified_output-in-Certify-clause-made g c =
-    let files = g.F.Folder.files c.args.folder.now in
-    let o = met files (g.F.Folder.faults c.args.folder.now)
-    (g.F.Folder.faults c.args.folder.now) in
-    let source = content_of c.args.c.now in
-    let file = c.args.file.now in
-    let task = Task.Certify c.in-Certify.stats in
-    let request = Request.OnFile file task in
-    let same : denoted_task c.args.task.now ≡ task = ap denoted_task c.in-Certify.is in
+    let faults = g.F.Folder.faults c.args.folder.now in
     let (rise, risen, prints) = c.in_ok-certified_output-in-Certify.ensures.prints in (
       rise,
       risen,
-      subst (λ t. IsMade (Request.OnFile file t) (later_stages file t) o rise
-          c.done-in-Certify.result.status
-          c.done-in-Certify.result.text.items) (sym same)
-          (make o request [] (Subject.One source) rise Done
-          c.in_ok-certified_output-in-Certify.field-0.items tt
-          (about-one o file source c.requires.read request (λ fs is. is)) refl prints (λ name. refl)
-          _ _
-          c.done-in-Certify.ensures.done c.done-in-Certify.ensures.same),
+      make-of-one (met (g.F.Folder.files c.args.folder.now) faults faults) c.args.file.now
+          (content_of c.args.c.now) c.requires.read (denoted_task c.args.task.now)
+          (Task.Certify c.in-Certify.stats) (ap denoted_task c.in-Certify.is) refl (λ files is. is)
+          refl rise c.in_ok-certified_output-in-Certify.field-0.items prints (λ name. refl) _ _
+          c.done-in-Certify.ensures.done c.done-in-Certify.ensures.same,
     )
 
 pub returns-in-Err-clause-halted : goal.returns-in-Err-clause-halted

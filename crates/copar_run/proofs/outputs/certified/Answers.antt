@@ -25,7 +25,7 @@ returns c =
     let blocks = map (λ v. v.items) found.blocks.items in
     let is = c.in_ok-certificate.ensures in
     let one = c.args.c.now.one_each in
-    let few : length found.dag < 2 ^ 32 = omega (arith, c.len-formulas.ensures.count) in
+    let few : length found.dag < 2 ^ 32 = c.is_dag.ensures.few in
     IfOk-weaker c.certificate_text.result _ _
     (λ output text.
     let same : output.items
@@ -44,7 +44,7 @@ returns c =
       read = λ note comment.
           ap (λ z. certificate_of (z ++ note)) same
           ∙ c.block_lines_can_be_said.ensures.texts found.dag source.names found.formulas.items
-          blocks note is.ordered is.writable few c.len-names.ensures.names
+          blocks note is.ordered is.writable few c.are_names.ensures
           (formulas-there source found.dag found.formulas.items blocks is one)
           (blocks-said source found.dag found.formulas.items blocks is one) comment;
     })

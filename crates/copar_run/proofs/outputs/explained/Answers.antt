@@ -41,7 +41,7 @@ returns c =
     let is : IsExplanation source pairs found.dag verdicts =
     subst (λ ps. IsExplanation source ps found.dag verdicts)
     (c.as_slice.ensures.value ∙ c.in_ok-pairs.ensures) c.in_ok-explanation.ensures in
-    let few : length found.dag < 2 ^ 32 = omega (arith, c.len-formulas.ensures.count) in
+    let few : length found.dag < 2 ^ 32 = c.is_dag.ensures.few in
     let named = pairs-named (length source.names) c.args.numbers.now c.requires.named in
     let there = verdicts-there source found.dag pairs verdicts is.each in
     IfOk-weaker c.explanation_text.result _ _
@@ -63,10 +63,10 @@ returns c =
       read = λ note comment.
           ap (λ z. answers_of (z ++ note)) same
           ∙ c.pair_lines_can_be_said.ensures.texts found.dag source.names pairs verdicts note
-          is.ordered is.writable few c.len-names.ensures.names named there comment;
+          is.ordered is.writable few c.are_names.ensures named there comment;
       formulas = λ note comment.
           ap (λ z. dag_of (z ++ note)) same
           ∙ c.pair_lines_can_be_said.ensures.formulas found.dag source.names pairs verdicts note
-          is.ordered is.writable few c.len-names.ensures.names named there comment;
+          is.ordered is.writable few c.are_names.ensures named there comment;
     })
     c.explanation_text.ensures.line_for_each

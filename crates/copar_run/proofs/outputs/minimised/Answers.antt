@@ -25,7 +25,7 @@ returns c =
     } in
     let formed : IsWellFormed (content_of d) = record {
       term = c.is_term.ensures;
-      names = c.len-names.ensures.names;
+      names = c.are_names.ensures;
       one_each = d.one_each;
       positive = d.positive;
       bounded = d.bounded;

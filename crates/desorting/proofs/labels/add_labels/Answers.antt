@@ -16,5 +16,5 @@ returns-in-Powerset-clause-labels c =
       ys,
       e,
       subst (λ m. AreLabelled c.args.table.now.weights m c.args.value.now c.args.count ys)
-          (sym c.in-Powerset.is ∙ c.node.ensures.node) suited,
+          (sym c.in-Powerset.is ∙ c.node.ensures) suited,
     )) c.add_members.ensures

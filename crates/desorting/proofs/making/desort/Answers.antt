@@ -61,7 +61,7 @@ returns c =
         sorted = c.in_ok-store.ensures.states ∙ c.len-count.ensures.count ∙ are.sorted;
         edges =
             as_many_targets edges found.targets.items c.in_ok-store.ensures.targets ∙ are.edges;
-        states = c.len-states.ensures.count ∙ sym c.args.c.now.one_each;
+        states = c.len-states.ensures ∙ sym c.args.c.now.one_each;
         denominator = c.in_ok-iface.ensures.denominator;
       };
     }

@@ -21,7 +21,7 @@ loop-k-preserved c =
     let number : c.advance.new.self.next - 1 ≡ k = omega (arith, next) in
     let newest : (x : ℕ) → x < length content.values → truth_at row x ≡ holds_at content dag k x =
     λ x h. c.in_ok-newest_row.ensures x
-    (omega (arith, h, c.len-states.ensures.count, c.args.c.now.one_each))
+    (omega (arith, h, c.len-states.ensures, c.args.c.now.one_each))
     ∙ (λ i. holds_at (same_content i) (same_dag i) (number i) x) in
     record {
       content = same_content;

@@ -6,28 +6,28 @@ use Rattle.fitting.proofs.FitFacts.{fit-at, fit_found, fit_none}
 use Rattle.fitting.proofs.fitting.+fit.Goals as goal
 
 pub fit_at-returns-in-Product : goal.fit_at-returns-in-Product
-fit_at-returns-in-Product t c = fit-at c.args.term.now c.node-node.ensures.term c.args.names.now
-    c.args.p c.requires c.node-node.result.now c.node-node.ensures.node c.args.tree.now
+fit_at-returns-in-Product t c = fit-at c.args.term.now c.is_term.ensures c.args.names.now
+    c.args.p c.requires c.node-node.result.now c.node-node.ensures c.args.tree.now
     c.product.result (search rules)
 
 pub fit_at-returns-in-Sum : goal.fit_at-returns-in-Sum
-fit_at-returns-in-Sum t c = fit-at c.args.term.now c.node-node.ensures.term c.args.names.now
-    c.args.p c.requires c.node-node.result.now c.node-node.ensures.node c.args.tree.now c.sum.result
+fit_at-returns-in-Sum t c = fit-at c.args.term.now c.is_term.ensures c.args.names.now
+    c.args.p c.requires c.node-node.result.now c.node-node.ensures c.args.tree.now c.sum.result
     (search rules)
 
 pub fit_at-returns-in-Power : goal.fit_at-returns-in-Power
-fit_at-returns-in-Power t c = fit-at c.args.term.now c.node-node.ensures.term c.args.names.now
-    c.args.p c.requires c.node-node.result.now c.node-node.ensures.node c.args.tree.now
+fit_at-returns-in-Power t c = fit-at c.args.term.now c.is_term.ensures c.args.names.now
+    c.args.p c.requires c.node-node.result.now c.node-node.ensures c.args.tree.now
     c.power.result (search rules)
 
 pub fit_at-returns-in-Powerset : goal.fit_at-returns-in-Powerset
-fit_at-returns-in-Powerset t c = fit-at c.args.term.now c.node-node.ensures.term c.args.names.now
-    c.args.p c.requires c.node-node.result.now c.node-node.ensures.node c.args.tree.now c.set.result
+fit_at-returns-in-Powerset t c = fit-at c.args.term.now c.is_term.ensures c.args.names.now
+    c.args.p c.requires c.node-node.result.now c.node-node.ensures c.args.tree.now c.set.result
     (search rules)
 
 pub fit_at-returns-in-Bag : goal.fit_at-returns-in-Bag
-fit_at-returns-in-Bag t c = fit-at c.args.term.now c.node-node.ensures.term c.args.names.now
-    c.args.p c.requires c.node-node.result.now c.node-node.ensures.node c.args.tree.now
+fit_at-returns-in-Bag t c = fit-at c.args.term.now c.is_term.ensures c.args.names.now
+    c.args.p c.requires c.node-node.result.now c.node-node.ensures c.args.tree.now
     c.weighted.result (search rules)
 
 pub fit_child-fit_at-requires : goal.fit_child-fit_at-requires
@@ -36,7 +36,7 @@ fit_child-fit_at-requires t c =
     ap (λ qs. slice_get qs c.args.k) (sym c.children.ensures.children)
     ∙ sym c.in-Some.ensures in
     let w : (c.args.p < c.in-Some.child.now) × (c.in-Some.child.now < length c.args.term.now) =
-    child_later c.args.term.now c.children.ensures.term c.args.p c.args.k c.in-Some.child.now
+    child_later c.args.term.now c.is_term.ensures c.args.p c.args.k c.in-Some.child.now
     e in
     (search rules, w.1)
 

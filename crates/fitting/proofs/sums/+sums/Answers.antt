@@ -64,20 +64,20 @@ sums_at-sums_in_all-requires t c = (
 
 pub sums_at-returns-in-Product : goal.sums_at-returns-in-Product
 sums_at-returns-in-Product t c =
-    sums-at c.args.l c.args.term.now c.node.ensures.term c.args.p c.requires.node c.node.result.now
-    c.node.ensures.node c.args.value.now
+    sums-at c.args.l c.args.term.now c.is_term.ensures c.args.p c.requires.node c.node.result.now
+    c.node.ensures c.args.value.now
     c.sums_in_places.result (search rules)
 
 pub sums_at-returns-in-Sum : goal.sums_at-returns-in-Sum
 sums_at-returns-in-Sum t c =
-    sums-at c.args.l c.args.term.now c.node.ensures.term c.args.p c.requires.node c.node.result.now
-    c.node.ensures.node c.args.value.now
+    sums-at c.args.l c.args.term.now c.is_term.ensures c.args.p c.requires.node c.node.result.now
+    c.node.ensures c.args.value.now
     c.sums_at_child.result (search rules)
 
 pub sums_at-returns-then-is_sum : goal.sums_at-returns-then-is_sum
 sums_at-returns-then-is_sum t c =
-    sums-at c.args.l c.args.term.now c.node.ensures.term c.args.p c.requires.node c.node.result.now
-    c.node.ensures.node c.args.value.now
+    sums-at c.args.l c.args.term.now c.is_term.ensures c.args.p c.requires.node c.node.result.now
+    c.node.ensures c.args.value.now
     c.sums_in_entries.result
     (distribution-asks c.args.l
     (map (sums_hold are_any c.args.l c.args.term.now) (children_at c.args.term.now c.args.p))
@@ -88,14 +88,14 @@ sums_at-returns-then-is_sum t c =
 
 pub sums_at-returns-in-Bag : goal.sums_at-returns-in-Bag
 sums_at-returns-in-Bag t c =
-    sums-at c.args.l c.args.term.now c.node.ensures.term c.args.p c.requires.node c.node.result.now
-    c.node.ensures.node c.args.value.now
+    sums-at c.args.l c.args.term.now c.is_term.ensures c.args.p c.requires.node c.node.result.now
+    c.node.ensures c.args.value.now
     c.sums_in_entries-in-Bag.result (search rules)
 
 pub sums_at-returns-in-Power : goal.sums_at-returns-in-Power
 sums_at-returns-in-Power t c =
-    sums-at c.args.l c.args.term.now c.node.ensures.term c.args.p c.requires.node c.node.result.now
-    c.node.ensures.node c.args.value.now
+    sums-at c.args.l c.args.term.now c.is_term.ensures c.args.p c.requires.node c.node.result.now
+    c.node.ensures c.args.value.now
     c.sums_in_all.result (search rules)
 
 pub sums_at_child-sums_at-requires : goal.sums_at_child-sums_at-requires
@@ -104,7 +104,7 @@ sums_at_child-sums_at-requires t c =
     ap (λ qs. slice_get qs c.args.k) (sym c.children.ensures.children)
     ∙ sym c.in-Some.ensures in
     let w : (c.args.p < c.in-Some.child.now) × (c.in-Some.child.now < length c.args.term.now) =
-    child_later c.args.term.now c.children.ensures.term c.args.p c.args.k
+    child_later c.args.term.now c.is_term.ensures c.args.p c.args.k
     c.in-Some.child.now e in
     (search rules, (w.1, c.requires.bounded))
 
@@ -130,7 +130,7 @@ sums_at_child-returns-in-None t c =
 pub sums_in_places-loop-child-init : goal.sums_in_places-loop-child-init
 sums_in_places-loop-child-init t c =
     rw c.children-children.ensures.children record {
-      later = children_later c.args.term.now c.children-children.ensures.term c.args.p;
+      later = children_later c.args.term.now c.is_term.ensures c.args.p;
       bounded = c.requires.bounded;
       same = refl;
     }

@@ -39,7 +39,7 @@ returns-in_ok-push-2 c =
     ≡ c.args.small.now ++ renumbered (slice_index numbers) c.formula.result.now ∷ [] =
     c.in_ok-push-2.ensures.last.1 ∙ ap (λ (g : Formula). c.args.small.now ++ g ∷ []) same in
     let numbers_are : c.push.new.self.items ≡ numbers ++ length c.args.small.now ∷ [] =
-    c.in_ok-push.ensures.items ∙ ap (λ (n : ℕ). numbers ++ n ∷ []) c.len.ensures.count in
+    c.in_ok-push.ensures.items ∙ ap (λ (n : ℕ). numbers ++ n ∷ []) c.len.ensures in
     record {
       kept = subst (λ (fs : List Formula). AreKept c.args.dag.now c.args.marks.now fs
           c.push.new.self.items (c.args.k + 1)) (sym small_is)

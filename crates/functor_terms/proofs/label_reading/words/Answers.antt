@@ -14,7 +14,7 @@ words-init c = words-none c.args.ahead c.new-words.result c.new-words.ensures
 pub returns-in_err-word : goal.returns-in_err-word
 returns-in_err-word c =
     let room : length c.words.words < 65536 =
-    omega (arith, c.words-test.true, c.len.ensures.count) in
+    omega (arith, c.words-test.true, c.len.ensures) in
     let p = err_from_is_err_and c.from_residual.result c.from_residual.ensures.1 in
     rw (p.1, p.2) (gives-err c.in_err-word.field-0.0 (word_at c.words.left) (words_at c.args.ahead)
     (words-fails c.args.ahead c.words.words c.words.left c.words.invariant room)
@@ -23,7 +23,7 @@ returns-in_err-word c =
 pub returns-then-is_inj : goal.returns-then-is_inj
 returns-then-is_inj c =
     let room : length c.words.words < 65536 =
-    omega (arith, c.words-test.true, c.len.ensures.count) in
+    omega (arith, c.words-test.true, c.len.ensures) in
     let inj : is_inj c.in_ok-word.word ≡ true = search rules in
     words-inj c.args.ahead c.words.words c.words.left c.words.invariant room c.in_ok-word.word
     c.in_ok-word.behind c.in_ok-word.ensures.word inj
@@ -31,7 +31,7 @@ returns-then-is_inj c =
 pub returns-then-not-branch : goal.returns-then-not-branch
 returns-then-not-branch c =
     let room : length c.words.words < 65536 =
-    omega (arith, c.words-test.true, c.len.ensures.count) in
+    omega (arith, c.words-test.true, c.len.ensures) in
     let other : is_inj c.in_ok-word.word ≡ false = search rules in
     words-old c.args.ahead c.words.words c.words.left c.words.invariant room c.in_ok-word.word
     c.in_ok-word.behind c.in_ok-word.ensures.word c.in_ok-word.ensures.bytes other
@@ -41,7 +41,7 @@ returns-then-not-branch c =
 pub words-preserved : goal.words-preserved
 words-preserved c =
     let room : length c.words.words < 65536 =
-    omega (arith, c.words-test.true, c.len.ensures.count) in
+    omega (arith, c.words-test.true, c.len.ensures) in
     let other : is_inj c.in_ok-word.word ≡ false = search rules in
     let new : place_of c.in_ok-word.word c.words.words ≡ None =
     ap (λ w. place_of w c.words.words) (sym c.bytes.ensures)
@@ -57,7 +57,7 @@ words-preserved c =
 pub returns-in-Err : goal.returns-in-Err
 returns-in-Err c =
     let room : length c.words.words < 65536 =
-    omega (arith, c.words-test.true, c.len.ensures.count) in
+    omega (arith, c.words-test.true, c.len.ensures) in
     let other : is_inj c.in_ok-word.word ≡ false = search rules in
     let new : place_of c.in_ok-word.word c.words.words ≡ None =
     ap (λ w. place_of w c.words.words) (sym c.bytes.ensures)
@@ -73,5 +73,5 @@ returns-in-Err c =
 pub returns : goal.returns
 returns c =
     let full : 65536 ≤ length c.words.words =
-    omega (arith, c.words-test.false, c.len.ensures.count) in
+    omega (arith, c.words-test.false, c.len.ensures) in
     words-out c.args.ahead c.words.words c.words.left c.words.invariant full

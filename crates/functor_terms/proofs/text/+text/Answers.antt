@@ -12,7 +12,7 @@ push_child-push_within-requires t c =
     let at : slice_get (children_at c.args.term.now c.args.p) 0 ≡ Some c.in-Some.child.now =
     ap (λ qs. slice_get qs 0) (sym c.children.ensures.children ∙ c.in-Some.ensures.cases.0) in
     let w : (c.args.p < c.in-Some.child.now) × (c.in-Some.child.now < length c.args.term.now) =
-    child-inside c.args.term.now c.children.ensures.term c.args.p 0 c.in-Some.child.now at in
+    child-inside c.args.term.now c.is_term.ensures c.args.p 0 c.in-Some.child.now at in
     (search rules, w.1)
 
 pub push_parts-push_within-requires : goal.push_parts-push_within-requires
@@ -22,7 +22,7 @@ push_parts-push_within-requires t c =
     ap (λ qs. slice_get qs c.loop-i.i) (sym c.children-children.ensures.children)
     ∙ slice_get-get_or c.children-children.result.now c.loop-i.i 0 c.loop-i-test.true in
     let w : (c.args.p < q) × (q < length c.args.term.now) = child-inside c.args.term.now
-    c.children-children.ensures.term c.args.p c.loop-i.i q at in
+    c.is_term.ensures c.args.p c.loop-i.i q at in
     (search rules, w.1)
 
 pub push_parts-loop-i-preserved : goal.push_parts-loop-i-preserved
@@ -41,16 +41,16 @@ push_weights-returns t c =
     put-last c.extend_from_slice-2.result c.extend_from_slice-2.new.self.items
     c.push_child.new.text.items c.as_slice.result.now _ c.extend_from_slice-2.ensures.items
     (ap (λ l. c.push_child.new.text.items ++ l) c.as_slice.ensures
-    ∙ put-weights c.args.term.now c.push_child.ensures.term c.args.p c.args.text.now.items
+    ∙ put-weights c.args.term.now c.is_term.ensures c.args.p c.args.text.now.items
     c.args.letter.now c.extend_from_slice.new.self.items c.push_child.new.text.items
-    c.in_ok-extend_from_slice.ensures.items c.in_ok-push_child.ensures.text)
+    c.in_ok-extend_from_slice.ensures.items c.in_ok-push_child.ensures)
 
 pub push_within-returns-then-level_of-level : goal.push_within-returns-then-level_of-level
 push_within-returns-then-level_of-level t c =
     on_ok_weaker c.push_over.result
     (λ e. e ∙ ap (λ l. c.args.text.now.items ++ l)
-    (put-same c.args.term.now c.node-node.ensures.term c.args.p c.requires
-    c.node-node.result.now c.node-node.ensures.node c.args.level (subst (λ n. n ≤ c.args.level)
+    (put-same c.args.term.now c.is_term.ensures c.args.p c.requires
+    c.node-node.result.now c.node-node.ensures c.args.level (subst (λ n. n ≤ c.args.level)
     c.level_of.ensures c.if-level_of-level.true)))
     c.push_over.ensures
 
@@ -59,8 +59,8 @@ push_within-returns t c =
     put-last c.extend_from_slice-2.result c.extend_from_slice-2.new.self.items
     c.push_over-2.new.text.items c.as_slice-2.result.now _ c.extend_from_slice-2.ensures.items
     (ap (λ l. c.push_over-2.new.text.items ++ l) c.as_slice-2.ensures
-    ∙ put-enclosed c.args.term.now c.node-node.ensures.term c.args.p c.requires
-    c.node-node.result.now c.node-node.ensures.node c.args.level (subst (λ n. c.args.level < n)
+    ∙ put-enclosed c.args.term.now c.is_term.ensures c.args.p c.requires
+    c.node-node.result.now c.node-node.ensures c.args.level (subst (λ n. c.args.level < n)
     c.level_of.ensures c.if-level_of-level.false)
     c.args.text.now.items c.extend_from_slice.new.self.items c.push_over-2.new.text.items
     (c.in_ok-extend_from_slice.ensures.items

@@ -8,4 +8,4 @@ loop-i-preserved c =
     join-turn (λ word. word) (codes ",") c.args.words.now c.loop-i.i c.word.result.now
     c.args.text.now.items c.loop-i.text.items c.push_before.new.text.items
     c.extend_from_slice.new.self.items
-    c.word.ensures.word c.loop-i.invariant (search rules) (search rules)
+    c.word.ensures c.loop-i.invariant (search rules) (search rules)

@@ -78,23 +78,23 @@ are_equal-same_totals-requires t c = (
 
 pub are_equal-returns-in-State : goal.are_equal-returns-in-State
 are_equal-returns-in-State t c =
-    equal-at c.args.term.now c.node.ensures.term c.args.p c.requires.node c.node.result.now
-    c.node.ensures.node c.args.u.now c.args.v.now c.eq.result (search rules)
+    equal-at c.args.term.now c.is_term.ensures c.args.p c.requires.node c.node.result.now
+    c.node.ensures c.args.u.now c.args.v.now c.eq.result (search rules)
 
 pub are_equal-returns-in-Product : goal.are_equal-returns-in-Product
 are_equal-returns-in-Product t c =
-    equal-at c.args.term.now c.node.ensures.term c.args.p c.requires.node c.node.result.now
-    c.node.ensures.node c.args.u.now c.args.v.now c.equal_places.result (search rules)
+    equal-at c.args.term.now c.is_term.ensures c.args.p c.requires.node c.node.result.now
+    c.node.ensures c.args.u.now c.args.v.now c.equal_places.result (search rules)
 
 pub are_equal-returns-then-index : goal.are_equal-returns-then-index
 are_equal-returns-then-index t c =
-    equal-at c.args.term.now c.node.ensures.term c.args.p c.requires.node c.node.result.now
-    c.node.ensures.node c.args.u.now c.args.v.now c.equal_at.result (search rules)
+    equal-at c.args.term.now c.is_term.ensures c.args.p c.requires.node c.node.result.now
+    c.node.ensures c.args.u.now c.args.v.now c.equal_at.result (search rules)
 
 pub are_equal-returns-in-Power : goal.are_equal-returns-in-Power
 are_equal-returns-in-Power t c =
-    equal-at c.args.term.now c.node.ensures.term c.args.p c.requires.node c.node.result.now
-    c.node.ensures.node c.args.u.now c.args.v.now c.equal_lists.result (search rules)
+    equal-at c.args.term.now c.is_term.ensures c.args.p c.requires.node c.node.result.now
+    c.node.ensures c.args.u.now c.args.v.now c.equal_lists.result (search rules)
 
 pub are_equal-returns-in-Powerset : goal.are_equal-returns-in-Powerset
 are_equal-returns-in-Powerset t c =
@@ -103,8 +103,8 @@ are_equal-returns-in-Powerset t c =
     c.same_members.ensures
     ∙ (λ i. same_members (child_test c.args.term.now c.args.p 0) (c.parts-in-Powerset.ensures i)
     (c.parts-in-Powerset-2.ensures i)) in
-    equal-at c.args.term.now c.node.ensures.term c.args.p c.requires.node c.node.result.now
-    c.node.ensures.node c.args.u.now c.args.v.now c.same_members.result (search (rules, k))
+    equal-at c.args.term.now c.is_term.ensures c.args.p c.requires.node c.node.result.now
+    c.node.ensures c.args.u.now c.args.v.now c.same_members.result (search (rules, k))
 
 pub are_equal-returns-in-Bag : goal.are_equal-returns-in-Bag
 are_equal-returns-in-Bag t c =
@@ -114,8 +114,8 @@ are_equal-returns-in-Bag t c =
     c.entries-in-Bag.result.now
     ∙ (λ i. same_totals the_sum (child_test c.args.term.now c.args.p 0) (c.entries.ensures i)
     (c.entries-in-Bag.ensures i)) in
-    equal-at c.args.term.now c.node.ensures.term c.args.p c.requires.node c.node.result.now
-    c.node.ensures.node c.args.u.now c.args.v.now c.same_totals.result (search (rules, k))
+    equal-at c.args.term.now c.is_term.ensures c.args.p c.requires.node c.node.result.now
+    c.node.ensures c.args.u.now c.args.v.now c.same_totals.result (search (rules, k))
 
 pub equal_at-are_equal-requires : goal.equal_at-are_equal-requires
 equal_at-are_equal-requires t c =
@@ -123,7 +123,7 @@ equal_at-are_equal-requires t c =
     ap (λ qs. slice_get qs c.args.k) (sym c.children.ensures.children)
     ∙ sym c.in-Some.ensures in
     let w : (c.args.p < c.in-Some.child.now) × (c.in-Some.child.now < length c.args.term.now) =
-    child_later c.args.term.now c.children.ensures.term c.args.p c.args.k c.in-Some.child.now
+    child_later c.args.term.now c.is_term.ensures c.args.p c.args.k c.in-Some.child.now
     e in
     (search rules, (w.1, (c.requires.left, c.requires.right)))
 
@@ -147,7 +147,7 @@ equal_at-returns-in-None t c =
 pub equal_places-loop-child-init : goal.equal_places-loop-child-init
 equal_places-loop-child-init t c =
     rw c.children-children.ensures.children record {
-      later = children_later c.args.term.now c.children-children.ensures.term c.args.p;
+      later = children_later c.args.term.now c.is_term.ensures c.args.p;
       left = c.requires.left;
       right = c.requires.right;
       rest = refl;

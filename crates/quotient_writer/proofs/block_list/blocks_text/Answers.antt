@@ -11,7 +11,7 @@ pub loop-i-preserved : goal.loop-i-preserved
 loop-i-preserved c =
     let inside : c.loop-i.i < length c.args.labels.now = omega (
       arith,
-      c.len-states.ensures.count,
+      c.len-states.ensures,
       c.requires.one_each,
       c.loop-i-test.true,
     ) in
@@ -24,5 +24,5 @@ loop-i-preserved c =
     line-more c.args.names.now c.args.labels.now c.loop-i.i c.index-first.result.now
     c.name.result.now c.name-in-loop-i.result.now c.loop-i.text.items c.push_line.new.text.items
     inside
-    (sym read ∙ c.in_ok-firsts.ensures.first label known) c.name.ensures.name
-    c.name-in-loop-i.ensures.name c.loop-i.invariant c.in_ok-push_line.ensures.line_is_last
+    (sym read ∙ c.in_ok-firsts.ensures.first label known) c.name.ensures
+    c.name-in-loop-i.ensures c.loop-i.invariant c.in_ok-push_line.ensures.line_is_last

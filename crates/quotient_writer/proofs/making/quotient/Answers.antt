@@ -21,7 +21,7 @@ use Rattle.quotient_writer.proofs.making.quotient.Goals.{then-labels-i+in_ok-add
 pub loop-i-init : goal.loop-i-init
 loop-i-init c = rw (c.new-names.ensures, c.new-values.ensures.items)
     (picking_none (IsRelabelledAt c.args.c.now.term c.args.labels.now 0) c.args.labels.now
-    c.args.c.now.names c.args.c.now.values.items c.len-states.ensures.names.distinct)
+    c.args.c.now.names c.args.c.now.values.items c.are_names.ensures.distinct)
 
 pub loop-i-preserved : goal.loop-i-preserved
 loop-i-preserved c =
@@ -30,7 +30,7 @@ loop-i-preserved c =
     let values : List Value = c.args.c.now.values.items in
     let i : ℕ = c.loop-i.i in
     let k : ℕ = get_or c.args.labels.now i 0 in
-    let in_names : i < length names = omega (arith, c.len-states.ensures.count) in
+    let in_names : i < length names = omega (arith, c.len-states.ensures) in
     let in_values : i < length values = omega (arith, c.args.c.now.one_each, in_names) in
     let in_labels : i < length c.args.labels.now = omega (arith, c.requires.one_each, in_names) in
     let label_at : slice_get c.args.labels.now i ≡ Some k = got c.args.labels.now i in_labels in
@@ -41,7 +41,7 @@ loop-i-preserved c =
           refl in_values w.index.ensures in
           let is_new : w.in_ok-add.field-0 ≡ true = w.in_ok-add.ensures.new.1
           (name_is_new R c.args.labels.now names values i k w.name.result.now v label_at
-          w.name.ensures.name value_at c.loop-i.names c.loop-i.values.items c.loop-i.invariant)
+          w.name.ensures value_at c.loop-i.names c.loop-i.values.items c.loop-i.invariant)
           in
           let named : c.if-labels-i.names ≡ c.loop-i.names ++ w.name.result.now ∷ [] = w.names-is
           ∙ w.in_ok-add.ensures.names
@@ -59,34 +59,34 @@ loop-i-preserved c =
                 w.in_ok-relabel.ensures.in_range;
           } in
           rw (named, made) (picking_new R c.args.labels.now names values i k w.name.result.now v
-          label_at w.name.ensures.name value_at c.loop-i.names c.loop-i.values.items
+          label_at w.name.ensures value_at c.loop-i.names c.loop-i.values.items
           c.loop-i.invariant w.in_ok-relabel.field-0 (w.if-labels-i.true
-          ∙ c.len.ensures.count) known)
+          ∙ c.len.ensures) known)
       | else-labels-i w ↦
           let (x, name_at) = element names i in_names in
           let (v, value_at) = element values i in_values in
           rw (w.names-is, ap (λ l. l.items) w.values-is) (picking_old R c.args.labels.now names
           values i k x v label_at name_at value_at c.loop-i.names c.loop-i.values.items
-          c.loop-i.invariant (λ e. w.if-labels-i.false (e ∙ sym c.len.ensures.count)))
+          c.loop-i.invariant (λ e. w.if-labels-i.false (e ∙ sym c.len.ensures)))
     ]
 
 pub add-requires-clause-room : goal.add-requires-clause-room
 add-requires-clause-room c = omega (arith, c.loop-i.invariant.few)
 
 pub add-requires-clause-name : goal.add-requires-clause-name
-add-requires-clause-name c = word_is_name c.args.c.now.names c.name.ensures.names c.loop-i.i
-    c.name.result.now c.name.ensures.name
+add-requires-clause-name c = word_is_name c.args.c.now.names c.are_names.ensures c.loop-i.i
+    c.name.result.now c.name.ensures
 
 pub returns-clause-names : goal.returns-clause-names
 returns-clause-names c = (picked_all (IsRelabelledAt c.args.c.now.term c.args.labels.now 0)
     c.args.labels.now c.args.c.now.names c.args.c.now.values.items c.loop-i.i c.loop-i.names
-    c.loop-i.values.items (omega (arith, c.len-states.ensures.count, c.requires.one_each))
+    c.loop-i.values.items (omega (arith, c.len-states.ensures, c.requires.one_each))
     c.loop-i.invariant).0
 
 pub returns-clause-values : goal.returns-clause-values
 returns-clause-values c = (picked_all (IsRelabelledAt c.args.c.now.term c.args.labels.now 0)
     c.args.labels.now c.args.c.now.names c.args.c.now.values.items c.loop-i.i c.loop-i.names
-    c.loop-i.values.items (omega (arith, c.len-states.ensures.count, c.requires.one_each))
+    c.loop-i.values.items (omega (arith, c.len-states.ensures, c.requires.one_each))
     c.loop-i.invariant).1
 
 pub invariant_of-result-clause-few : goal.invariant_of-result-clause-few
@@ -98,7 +98,7 @@ invariant_of-result-clause-one_each c = end-one_each c.args.c.now.term c.args.la
     c.requires.numbered c.loop-i.names c.loop-i.values.items
     (picked_all (IsRelabelledAt c.args.c.now.term c.args.labels.now 0) c.args.labels.now
     c.args.c.now.names c.args.c.now.values.items c.loop-i.i c.loop-i.names c.loop-i.values.items
-    (omega (arith, c.len-states.ensures.count, c.requires.one_each)) c.loop-i.invariant)
+    (omega (arith, c.len-states.ensures, c.requires.one_each)) c.loop-i.invariant)
 
 pub returns-clause-quotient : goal.returns-clause-quotient
 returns-clause-quotient c = made-IsQuotient c.args.c.now.term c.args.c.now.names
@@ -106,12 +106,12 @@ returns-clause-quotient c = made-IsQuotient c.args.c.now.term c.args.c.now.names
     c.requires.numbered c.loop-i.names c.loop-i.values.items c.requires.stable
     (picked_all (IsRelabelledAt c.args.c.now.term c.args.labels.now 0) c.args.labels.now
     c.args.c.now.names c.args.c.now.values.items c.loop-i.i c.loop-i.names c.loop-i.values.items
-    (omega (arith, c.len-states.ensures.count, c.requires.one_each)) c.loop-i.invariant)
+    (omega (arith, c.len-states.ensures, c.requires.one_each)) c.loop-i.invariant)
 
 pub relabel-requires-clause-bounded : goal.relabel-requires-clause-bounded
 relabel-requires-clause-bounded c =
     let in_names : c.loop-i.i < length c.args.c.now.names =
-    omega (arith, c.len-states.ensures.count) in
+    omega (arith, c.len-states.ensures) in
     let in_values : c.loop-i.i < length c.args.c.now.values.items =
     omega (arith, c.args.c.now.one_each, in_names) in
     each_bounded c.args.c.now.values.items c.args.c.now.in_bounds c.loop-i.i c.index.result.now
@@ -126,7 +126,7 @@ invariant_of-result-clause-fitting c =
     c.requires.one_each c.args.c.now.one_each c.requires.numbered c.loop-i.names
     c.loop-i.values.items (picked_all (IsRelabelledAt c.args.c.now.term c.args.labels.now 0)
     c.args.labels.now c.args.c.now.names c.args.c.now.values.items c.loop-i.i c.loop-i.names
-    c.loop-i.values.items (omega (arith, c.len-states.ensures.count, c.requires.one_each))
+    c.loop-i.values.items (omega (arith, c.len-states.ensures, c.requires.one_each))
     c.loop-i.invariant))
 
 pub invariant_of-result-clause-normal : goal.invariant_of-result-clause-normal
@@ -137,7 +137,7 @@ invariant_of-result-clause-normal c =
     c.requires.one_each c.args.c.now.one_each c.requires.numbered c.loop-i.names
     c.loop-i.values.items (picked_all (IsRelabelledAt c.args.c.now.term c.args.labels.now 0)
     c.args.labels.now c.args.c.now.names c.args.c.now.values.items c.loop-i.i c.loop-i.names
-    c.loop-i.values.items (omega (arith, c.len-states.ensures.count, c.requires.one_each))
+    c.loop-i.values.items (omega (arith, c.len-states.ensures, c.requires.one_each))
     c.loop-i.invariant))
 
 pub invariant_of-result-clause-in_range : goal.invariant_of-result-clause-in_range
@@ -146,7 +146,7 @@ invariant_of-result-clause-in_range c =
     c.requires.one_each c.args.c.now.one_each c.requires.numbered c.loop-i.names
     c.loop-i.values.items (picked_all (IsRelabelledAt c.args.c.now.term c.args.labels.now 0)
     c.args.labels.now c.args.c.now.names c.args.c.now.values.items c.loop-i.i c.loop-i.names
-    c.loop-i.values.items (omega (arith, c.len-states.ensures.count, c.requires.one_each))
+    c.loop-i.values.items (omega (arith, c.len-states.ensures, c.requires.one_each))
     c.loop-i.invariant)
 
 pub invariant_of-result-clause-weighted : goal.invariant_of-result-clause-weighted
@@ -157,7 +157,7 @@ invariant_of-result-clause-weighted c =
     c.requires.one_each c.args.c.now.one_each c.requires.numbered c.loop-i.names
     c.loop-i.values.items (picked_all (IsRelabelledAt c.args.c.now.term c.args.labels.now 0)
     c.args.labels.now c.args.c.now.names c.args.c.now.values.items c.loop-i.i c.loop-i.names
-    c.loop-i.values.items (omega (arith, c.len-states.ensures.count, c.requires.one_each))
+    c.loop-i.values.items (omega (arith, c.len-states.ensures, c.requires.one_each))
     c.loop-i.invariant) (weights_hold c.args.c.now.denominator c.args.c.now.term 0)
     (λ v r k. form-weights c.args.c.now.denominator c.args.c.now.term 0 c.args.labels.now v r k)
     c.args.c.now.weighted)
@@ -168,6 +168,6 @@ invariant_of-result-clause-in_bounds c =
     c.requires.one_each c.args.c.now.one_each c.requires.numbered c.loop-i.names
     c.loop-i.values.items (picked_all (IsRelabelledAt c.args.c.now.term c.args.labels.now 0)
     c.args.labels.now c.args.c.now.names c.args.c.now.values.items c.loop-i.i c.loop-i.names
-    c.loop-i.values.items (omega (arith, c.len-states.ensures.count, c.requires.one_each))
+    c.loop-i.values.items (omega (arith, c.len-states.ensures, c.requires.one_each))
     c.loop-i.invariant) (is_within (2 ^ 106)) (λ v r k. form-within (2 ^ 106) c.args.c.now.term
     0 c.args.labels.now v r k) c.args.c.now.in_bounds

@@ -26,7 +26,7 @@ only_cited-requires c =
       arith,
       ap (λ (ns : List ℕ). length ns) c.as_slice.ensures.value,
       c.in_ok-keys.ensures.one_each,
-      c.len.ensures.count,
+      c.len.ensures,
       now.one_each,
     ) in
     let grouped : AreGroups keys (length now.values.items) firsts groups =
@@ -35,7 +35,7 @@ only_cited-requires c =
     below_all firsts (length told.dag) (λ m h.
     key_there (content_of now) told c.requires.told keys
     (λ i hi. ap (λ (ns : List ℕ). slice_index ns i) c.as_slice.ensures.value
-    ∙ c.in_ok-keys.ensures.of_blocks i (omega (arith, hi, c.len.ensures.count, now.one_each)))
+    ∙ c.in_ok-keys.ensures.of_blocks i (omega (arith, hi, c.len.ensures, now.one_each)))
     firsts groups grouped m (omega (arith, h, grouped.one_each))) in
     subst (λ (fs : List Formula). All (λ k. k < length fs) c.as_slice-2.result.now)
     (sym c.dag-dag.ensures)
@@ -55,14 +55,14 @@ returns c =
       arith,
       ap (λ (ns : List ℕ). length ns) c.as_slice.ensures.value,
       c.in_ok-keys.ensures.one_each,
-      c.len.ensures.count,
+      c.len.ensures,
       now.one_each,
     ) in
     certified (content_of now) told c.requires.told keys
     (λ i hi. ap (λ (ns : List ℕ). slice_index ns i) c.as_slice.ensures.value
-    ∙ c.in_ok-keys.ensures.of_blocks i (omega (arith, hi, c.len.ensures.count, now.one_each)))
+    ∙ c.in_ok-keys.ensures.of_blocks i (omega (arith, hi, c.len.ensures, now.one_each)))
     firsts groups (subst (λ n. AreGroups keys n firsts groups) count c.in_ok-keys-2.ensures)
-    (subst (λ (fs : List Formula). IsDag fs) c.dag-dag.ensures c.len-count.ensures.ordered)
+    (subst (λ (fs : List Formula). IsDag fs) c.dag-dag.ensures c.is_dag.ensures.ordered)
     c.cited_formulas_are_old.ensures.no_more small new
     (subst (λ (fs : List Formula). IsOnlyCited fs firsts small new) c.dag-dag.ensures
     (subst (λ ks. IsOnlyCited c.dag-dag.result.now ks small new) c.as_slice-2.ensures.value

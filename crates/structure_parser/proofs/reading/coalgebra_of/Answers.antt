@@ -12,13 +12,13 @@ use Rattle.structure_parser.proofs.reading.coalgebra_of.Goals as goal
 pub invariant_of-result : goal.invariant_of-result
 invariant_of-result c =
     let n : length c.as_slice.result.now ≡ length c.args.names =
-    ap length c.as_slice.ensures.value ∙ c.in_ok-own.ensures.count ∙ c.len.ensures.count in
+    ap length c.as_slice.ensures.value ∙ c.in_ok-own.ensures.count ∙ c.len.ensures in
     let R = IsValueOf c.args.term c.args.fits.l (length c.args.names) in
     let all : AllZip R c.args.fits.kept.items c.in_ok-values.values.items =
     subst (λ m. AllZip (IsValueOf c.args.term c.args.fits.l m) c.args.fits.kept.items
     c.in_ok-values.values.items) n c.in_ok-values.ensures.values in
     record {
-      few = c.len.ensures.names.few;
+      few = c.are_names.ensures.few;
       one_each =
           AllZip-long R c.args.fits.kept.items c.in_ok-values.values.items all
           ∙ c.requires.one_each;

@@ -19,7 +19,7 @@ push_child-push_value-requires t c =
     ap (λ qs. slice_get qs c.args.k) (sym c.children.ensures.children)
     ∙ sym c.in-Some.ensures in
     let w : (c.args.p < c.in-Some.child.now) × (c.in-Some.child.now < length c.args.term.now) =
-    child_later c.args.term.now c.children.ensures.term c.args.p c.args.k c.in-Some.child.now
+    child_later c.args.term.now c.is_term.ensures c.args.p c.args.k c.in-Some.child.now
     e in
     (search rules, (w.1, c.requires.positive))
 
@@ -141,16 +141,16 @@ pub push_value-returns-in-Product : goal.push_value-returns-in-Product
 push_value-returns-in-Product t c =
     let ws : List Write = child_texts c.args.l c.args.names.now c.args.term.now c.args.p in
     on_ok_weaker c.push_tuple.result
-    (λ put. Steps.put-step c.args.l c.args.names.now c.args.term.now c.node.ensures.term c.args.p
-    c.requires.node c.node.result.now c.node.ensures.node Product c.in-Product.is c.args.value.now
+    (λ put. Steps.put-step c.args.l c.args.names.now c.args.term.now c.is_term.ensures c.args.p
+    c.requires.node c.node.result.now c.node.ensures Product c.in-Product.is c.args.value.now
     c.args.text.now.items _ c.push_tuple.new.text.items put (ap (λ vs. in_parentheses (listed
     (part_texts ws 0 vs))) c.parts.ensures)) c.push_tuple.ensures
 
 pub push_value-returns-in-Sum : goal.push_value-returns-in-Sum
 push_value-returns-in-Sum t c =
     on_ok_weaker c.push_inj.result
-    (λ put. Steps.put-step c.args.l c.args.names.now c.args.term.now c.node.ensures.term c.args.p
-    c.requires.node c.node.result.now c.node.ensures.node Sum c.in-Sum.is c.args.value.now
+    (λ put. Steps.put-step c.args.l c.args.names.now c.args.term.now c.is_term.ensures c.args.p
+    c.requires.node c.node.result.now c.node.ensures Sum c.in-Sum.is c.args.value.now
     c.args.text.now.items _ c.push_inj.new.text.items put refl) c.push_inj.ensures
 
 pub push_value-returns-in-Power : goal.push_value-returns-in-Power
@@ -158,8 +158,8 @@ push_value-returns-in-Power t c =
     let ws : List Write = child_texts c.args.l c.args.names.now c.args.term.now c.args.p in
     let w : Write = write_at ws 0 in
     on_ok_weaker c.push_power.result
-    (λ put. Steps.put-step c.args.l c.args.names.now c.args.term.now c.node.ensures.term c.args.p
-    c.requires.node c.node.result.now c.node.ensures.node (Power c.in-Power.labels) c.in-Power.is
+    (λ put. Steps.put-step c.args.l c.args.names.now c.args.term.now c.is_term.ensures c.args.p
+    c.requires.node c.node.result.now c.node.ensures (Power c.in-Power.labels) c.in-Power.is
     c.args.value.now
     c.args.text.now.items _ c.push_power.new.text.items put (ap (λ vs. in_braces (listed
     (keyed_texts c.in-Power.labels w 0 vs))) c.parts-in-Power.ensures)) c.push_power.ensures
@@ -169,8 +169,8 @@ push_value-returns-in-Powerset t c =
     let ws : List Write = child_texts c.args.l c.args.names.now c.args.term.now c.args.p in
     let w : Write = write_at ws 0 in
     on_ok_weaker c.push_set.result
-    (λ put. Steps.put-step c.args.l c.args.names.now c.args.term.now c.node.ensures.term c.args.p
-    c.requires.node c.node.result.now c.node.ensures.node Powerset c.in-Powerset.is c.args.value.now
+    (λ put. Steps.put-step c.args.l c.args.names.now c.args.term.now c.is_term.ensures c.args.p
+    c.requires.node c.node.result.now c.node.ensures Powerset c.in-Powerset.is c.args.value.now
     c.args.text.now.items _ c.push_set.new.text.items put (ap (λ vs. in_braces (listed (map w vs)))
     c.parts-in-Powerset.ensures)) c.push_set.ensures
 
@@ -178,10 +178,10 @@ pub push_value-returns-in-Bag : goal.push_value-returns-in-Bag
 push_value-returns-in-Bag t c =
     let ws : List Write = child_texts c.args.l c.args.names.now c.args.term.now c.args.p in
     on_ok_weaker c.push_weights.result
-    (λ put. Steps.put-step c.args.l c.args.names.now c.args.term.now c.node.ensures.term c.args.p
-    c.requires.node c.node.result.now c.node.ensures.node c.node.result.now refl c.args.value.now
+    (λ put. Steps.put-step c.args.l c.args.names.now c.args.term.now c.is_term.ensures c.args.p
+    c.requires.node c.node.result.now c.node.ensures c.node.result.now refl c.args.value.now
     c.args.text.now.items _ c.push_weights.new.text.items put
-    (ap (λ n. weights_text c.args.l n ws c.args.value.now) (sym c.node.ensures.node)
+    (ap (λ n. weights_text c.args.l n ws c.args.value.now) (sym c.node.ensures)
     ∙ Steps.weights-step c.args.l c.args.names.now c.node.result.now
     ws c.args.value.now c.in-Bag.is)) c.push_weights.ensures
 
@@ -227,5 +227,5 @@ push_weights-returns t c =
     c.loop-k-test.false c.in_ok-push.ensures.items c.loop-k.invariant
     c.in_ok-push-2.ensures.items
     ∙ (λ i. c.args.text.now.items ++ in_braces (listed (entry_texts c.args.l
-    (c.node-node.ensures.node i)
+    (c.node-node.ensures i)
     w (c.entries-entries.ensures i))))

@@ -5,7 +5,6 @@ use Rattle.std.proofs.lemmas.List.{take_all}
 use Rattle.functor_terms.specs.Text.{text_of_term}
 use Rattle.functor_terms.specs.Terms.{IsTerm}
 use Rattle.functor_terms.specs.Words.{AreNames}
-use Rattle.functor_terms.proofs.PartLaws.{spells_a_term}
 use Rattle.typing.specs.Contents.{content_of}
 use Rattle.typing.specs.declared.coalgebra.Coalgebra.{Coalgebra}
 use Rattle.structure_writer.specs.Spelled.{Spells, IsWellFormed}
@@ -35,26 +34,24 @@ returns-clause-canonical c =
     let d = c.args.c.now in
     let k = c.loop-i.i in
     let names : take k d.names ≡ d.names =
-    take_all k d.names (omega (arith, c.len-i-end.ensures.count, c.loop-i-test.false)) in
+    take_all k d.names (omega (arith, c.len-i-end.ensures, c.loop-i-test.false)) in
     let values : take k d.values.items ≡ d.values.items =
     take_all k d.values.items
-    (omega (arith, c.len-i-end.ensures.count, c.loop-i-test.false, d.one_each)) in
+    (omega (arith, c.len-i-end.ensures, c.loop-i-test.false, d.one_each)) in
     c.loop-i.invariant ∙ (λ i. (text_of_term d.term ++ codes "\n")
     ++ state_lines (text_at d.denominator d.names d.term 0) (names i) (values i))
 
 pub returns-clause-spells : goal.returns-clause-spells
 returns-clause-spells c =
     let d = c.args.c.now in
-    let term : IsTerm d.term =
-    spells_a_term c.in_ok-text.text.items d.term c.in_ok-text.ensures.spells in
     subst (λ text. Spells text (content_of d)) (sym (returns-clause-canonical c))
-    (text-spells (content_of d) (well d term c.len-i-end.ensures.names))
+    (text-spells (content_of d) (well d c.is_term.ensures c.are_names.ensures))
 
 pub loop-i-preserved : goal.loop-i-preserved
 loop-i-preserved c =
     let d = c.args.c.now in
     let in_names : c.loop-i.i < length d.names =
-    omega (arith, c.len-i-end.ensures.count, c.loop-i-test.true) in
+    omega (arith, c.len-i-end.ensures, c.loop-i-test.true) in
     let in_values : c.loop-i.i < length d.values.items =
     omega (arith, d.one_each, in_names) in
     let at : slice_get d.values.items c.loop-i.i ≡ Some c.index.result.now =
@@ -62,5 +59,5 @@ loop-i-preserved c =
     in_values c.index.ensures in
     put-line (text_at d.denominator d.names d.term 0) d.names d.values.items c.loop-i.i
     c.name-name.result.now c.index.result.now (text_of_term d.term ++ codes "\n")
-    c.loop-i.text.items c.push_line.new.text.items c.name-name.ensures.name at c.loop-i.invariant
-    c.in_ok-push_line.ensures.line
+    c.loop-i.text.items c.push_line.new.text.items c.name-name.ensures at c.loop-i.invariant
+    c.in_ok-push_line.ensures

@@ -12,5 +12,5 @@ returns-in-Product c = record {
       ∙ (λ k. min (length (c.children-nodes.ensures.children k)) (length (c.parts.ensures k)))
       ∙ sym (zip_length (children_at c.args.term.now c.args.node) (parts c.args.value.now))
       ∙ sym (ap length (of_kind c.args.term.now c.args.node c.args.value.now Product
-      (sym c.node.ensures.node ∙ c.in-Product.is)));
+      (sym c.node.ensures ∙ c.in-Product.is)));
 }

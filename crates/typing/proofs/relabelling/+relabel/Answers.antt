@@ -23,8 +23,8 @@ relabel_at-relabel_places-requires t c = (
     subst (λ (vs : List Value). each_ready
         (length c.args.labels.now) (map (fits c.args.term.now) (children_at c.args.term.now
         c.args.p)) vs ≡ true) (sym c.as_slice.ensures) (RelabelSteps.places_are_ready
-        c.args.term.now c.node-node.ensures.term c.args.p c.requires.node c.node-node.result.now
-        c.node-node.ensures.node c.args.labels.now c.args.value.now c.requires.ready
+        c.args.term.now c.is_term.ensures c.args.p c.requires.node c.node-node.result.now
+        c.node-node.ensures c.args.labels.now c.args.value.now c.requires.ready
         c.in-Tuple.parts c.in-Tuple.is c.in-Product.is),
   ),
 )
@@ -37,8 +37,8 @@ relabel_at-relabel_each-requires t c = (
     subst (λ (vs : List Value). list_all
         (is_ready (length c.args.labels.now) (child_check c.args.term.now c.args.p 0)) vs ≡ true)
         (sym c.as_slice-in_default.ensures) (RelabelSteps.parts_ready c.args.term.now
-        c.node-node.ensures.term c.args.p c.requires.node c.node-node.result.now
-        c.node-node.ensures.node c.args.labels.now c.args.value.now c.requires.ready
+        c.is_term.ensures c.args.p c.requires.node c.node-node.result.now
+        c.node-node.ensures c.args.labels.now c.args.value.now c.requires.ready
         c.in-Tuple.parts c.in-Tuple.is c.in_default.not-Product),
   ),
 )
@@ -50,8 +50,8 @@ relabel_at-relabel_child-requires t c = (
     c.requires.node,
     subst (λ (w : Value). is_ready (length c.args.labels.now)
         (child_check c.args.term.now c.args.p c.in-Inj.k) w ≡ true) (sym c.get.ensures)
-        (RelabelSteps.inner_ready c.args.term.now c.node-node.ensures.term c.args.p c.requires.node
-        c.node-node.result.now c.node-node.ensures.node c.args.labels.now c.args.value.now
+        (RelabelSteps.inner_ready c.args.term.now c.is_term.ensures c.args.p c.requires.node
+        c.node-node.result.now c.node-node.ensures c.args.labels.now c.args.value.now
         c.requires.ready c.in-Inj.k c.in-Inj.inner c.in-Inj.is),
   ),
 )
@@ -64,8 +64,8 @@ relabel_at-relabel_each-requires-in-Set t c = (
     subst (λ (vs : List Value). list_all
         (is_ready (length c.args.labels.now) (child_check c.args.term.now c.args.p 0)) vs ≡ true)
         (sym c.as_slice-in-Set.ensures) (RelabelSteps.members_ready c.args.term.now
-        c.node-node.ensures.term c.args.p c.requires.node c.node-node.result.now
-        c.node-node.ensures.node c.args.labels.now c.args.value.now c.requires.ready
+        c.is_term.ensures c.args.p c.requires.node c.node-node.result.now
+        c.node-node.ensures c.args.labels.now c.args.value.now c.requires.ready
         c.in-Set.members c.in-Set.is),
   ),
 )
@@ -78,16 +78,16 @@ relabel_at-relabel_entries-requires t c = (
     subst (λ (vs : List (Value × ℤ)). list_all
         (λ w. is_ready (length c.args.labels.now) (child_check c.args.term.now c.args.p 0) w.0) vs
         ≡ true) (sym c.as_slice-in-Weights.ensures) (RelabelSteps.entries_are_ready c.args.term.now
-        c.node-node.ensures.term c.args.p c.requires.node c.node-node.result.now
-        c.node-node.ensures.node c.args.labels.now c.args.value.now c.requires.ready
+        c.is_term.ensures c.args.p c.requires.node c.node-node.result.now
+        c.node-node.ensures c.args.labels.now c.args.value.now c.requires.ready
         c.in-Weights.entries c.in-Weights.is),
   ),
 )
 
 pub relabel_at-totals-requires-clause-bounded : goal.relabel_at-totals-requires-clause-bounded
 relabel_at-totals-requires-clause-bounded t c =
-    RelabelSteps.entries_bound c.args.term.now c.node-node.ensures.term c.args.p c.requires.node
-    c.node-node.result.now c.node-node.ensures.node c.args.labels.now c.args.value.now
+    RelabelSteps.entries_bound c.args.term.now c.is_term.ensures c.args.p c.requires.node
+    c.node-node.result.now c.node-node.ensures c.args.labels.now c.args.value.now
     c.requires.ready c.in-Weights.entries c.in_ok-new-in-Weights.new.items c.in-Weights.is
     (subst (λ (vs : List (Value × ℤ)). AllZip (IsRelabelledEntry c.args.term.now
     c.args.labels.now c.args.p) vs c.in_ok-new-in-Weights.new.items)
@@ -96,14 +96,14 @@ relabel_at-totals-requires-clause-bounded t c =
 pub relabel_at-returns-in-State : goal.relabel_at-returns-in-State
 relabel_at-returns-in-State t c =
     let inside : c.in-State.i < length c.args.labels.now = search (rules, the_lemmas) in
-    RelabelSteps.at_state c.args.term.now c.node-node.ensures.term c.args.p c.requires.node
-    c.node-node.result.now c.node-node.ensures.node c.args.labels.now c.args.value.now
+    RelabelSteps.at_state c.args.term.now c.is_term.ensures c.args.p c.requires.node
+    c.node-node.result.now c.node-node.ensures c.args.labels.now c.args.value.now
     c.requires.ready c.in-State.i c.in-State.is inside
 
 pub relabel_at-returns-in_ok-new-in-Product : goal.relabel_at-returns-in_ok-new-in-Product
 relabel_at-returns-in_ok-new-in-Product t c =
-    rw c.from_vec.ensures (RelabelSteps.at_places c.args.term.now c.node-node.ensures.term c.args.p
-    c.requires.node c.node-node.result.now c.node-node.ensures.node c.args.labels.now
+    rw c.from_vec.ensures (RelabelSteps.at_places c.args.term.now c.is_term.ensures c.args.p
+    c.requires.node c.node-node.result.now c.node-node.ensures c.args.labels.now
     c.args.value.now c.requires.ready c.in-Tuple.parts c.in_ok-new-in-Product.new.items
     c.in-Tuple.is c.in-Product.is
     (subst (λ (vs : List Value). Zip3 (IsRelabelledAt c.args.term.now c.args.labels.now)
@@ -112,8 +112,8 @@ relabel_at-returns-in_ok-new-in-Product t c =
 
 pub relabel_at-returns-in_ok-new-in_default : goal.relabel_at-returns-in_ok-new-in_default
 relabel_at-returns-in_ok-new-in_default t c =
-    rw c.from_vec-in_default.ensures (RelabelSteps.at_parts c.args.term.now c.node-node.ensures.term
-    c.args.p c.requires.node c.node-node.result.now c.node-node.ensures.node c.args.labels.now
+    rw c.from_vec-in_default.ensures (RelabelSteps.at_parts c.args.term.now c.is_term.ensures
+    c.args.p c.requires.node c.node-node.result.now c.node-node.ensures c.args.labels.now
     c.args.value.now c.requires.ready c.in-Tuple.parts c.in_ok-new-in_default.new.items
     c.in-Tuple.is c.in_default.not-Product
     (subst (λ (vs : List Value). AllZip (IsRelabelledChild c.args.term.now c.args.labels.now
@@ -122,16 +122,16 @@ relabel_at-returns-in_ok-new-in_default t c =
 
 pub relabel_at-returns-in_ok-new-in-Inj-2 : goal.relabel_at-returns-in_ok-new-in-Inj-2
 relabel_at-returns-in_ok-new-in-Inj-2 t c =
-    rw c.in_ok-new-in-Inj-2.ensures (RelabelSteps.at_inner c.args.term.now c.node-node.ensures.term
-    c.args.p c.requires.node c.node-node.result.now c.node-node.ensures.node c.args.labels.now
+    rw c.in_ok-new-in-Inj-2.ensures (RelabelSteps.at_inner c.args.term.now c.is_term.ensures
+    c.args.p c.requires.node c.node-node.result.now c.node-node.ensures c.args.labels.now
     c.args.value.now c.requires.ready c.in-Inj.k c.in-Inj.inner c.in_ok-new-in-Inj.new
     c.in-Inj.is (subst (λ (w : Value). IsRelabelledChild c.args.term.now c.args.labels.now
     c.args.p c.in-Inj.k w c.in_ok-new-in-Inj.new) c.get.ensures c.in_ok-new-in-Inj.ensures))
 
 pub relabel_at-returns-in_ok-new-in-Set : goal.relabel_at-returns-in_ok-new-in-Set
 relabel_at-returns-in_ok-new-in-Set t c =
-    rw c.from_vec-in-Set.ensures (RelabelSteps.at_members c.args.term.now c.node-node.ensures.term
-    c.args.p c.requires.node c.node-node.result.now c.node-node.ensures.node c.args.labels.now
+    rw c.from_vec-in-Set.ensures (RelabelSteps.at_members c.args.term.now c.is_term.ensures
+    c.args.p c.requires.node c.node-node.result.now c.node-node.ensures c.args.labels.now
     c.args.value.now c.requires.ready c.in-Set.members c.in_ok-new-in-Set.new.items
     c.in_order.result.items c.in-Set.is
     (subst (λ (vs : List Value). AllZip (IsRelabelledChild c.args.term.now c.args.labels.now
@@ -141,8 +141,8 @@ relabel_at-returns-in_ok-new-in-Set t c =
 pub relabel_at-returns-in_ok-totals-in-Weights : goal.relabel_at-returns-in_ok-totals-in-Weights
 relabel_at-returns-in_ok-totals-in-Weights t c =
     rw c.from_vec-in-Weights.ensures (RelabelSteps.at_entries c.args.term.now
-    c.node-node.ensures.term c.args.p c.requires.node c.node-node.result.now
-    c.node-node.ensures.node c.args.labels.now c.args.value.now c.requires.ready
+    c.is_term.ensures c.args.p c.requires.node c.node-node.result.now
+    c.node-node.ensures c.args.labels.now c.args.value.now c.requires.ready
     c.in-Weights.entries c.in_ok-new-in-Weights.new.items
     c.in_ok-totals-in-Weights.field-0.items c.in-Weights.is
     (subst (λ (vs : List (Value × ℤ)). AllZip (IsRelabelledEntry c.args.term.now
@@ -169,7 +169,7 @@ relabel_child-relabel_at-requires t c =
     c.args.value.now c.requires.ready))) in
     let w : (c.args.p < get_or c.children-children.result.now c.args.k 0)
     × (get_or c.children-children.result.now c.args.k 0 < length c.args.term.now) = child_later
-    c.args.term.now c.children-children.ensures.term c.args.p c.args.k
+    c.args.term.now c.is_term.ensures c.args.p c.args.k
     (get_or c.children-children.result.now c.args.k 0) here in (
       search rules,
       (
@@ -223,7 +223,7 @@ relabel_entries-loop-value-preserved t c =
 pub relabel_places-loop-child-init : goal.relabel_places-loop-child-init
 relabel_places-loop-child-init t c =
     rw c.children-children.ensures.children record {
-      later = children_later c.args.term.now c.children-children.ensures.term c.args.p;
+      later = children_later c.args.term.now c.is_term.ensures c.args.p;
       ready = c.requires.ready;
       made = λ more z. subst (λ (rs : List Value). Zip3 (IsRelabelledAt c.args.term.now
           c.args.labels.now) (children_at c.args.term.now c.args.p) c.args.values.now (rs ++ more))
