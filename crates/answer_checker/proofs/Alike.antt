@@ -5,6 +5,7 @@ use Rattle.std.specs.List.{AllZip}
 use Rattle.std.specs.Cmp.{tied_itself}
 use Rattle.std.specs.declared.cmp.Ordering.TheVariants.{Equal}
 use Rattle.std.proofs.lemmas.Option.{same_Some, none-some, slice_get_within}
+use Rattle.std.proofs.lemmas.Slice.Zip.{AllZip-long}
 use Rattle.functor_terms.specs.Terms.{Nodes}
 use Rattle.typing.specs.declared.value.Value.{Value}
 use Rattle.typing.specs.NormalForms.{IsRelabelledAt}
@@ -16,15 +17,6 @@ use Rattle.typing.proofs.RelabelSteps.{forms_tell}
 use Rattle.typing.proofs.StableLaws.{element}
 use Rattle.answer_checker.specs.Rules.{IsLikeFirst, AreLikeBefore, IsFirstUnlike, first_beside}
 use Rattle.answer_checker.specs.Steps.{AreFirstsOf}
-
--- two lists of which this is said have one length
-pub zip_length :
-    {A B : Type 0} (R : A → B → Type 0) (xs : List A) (ys : List B) → AllZip R xs ys →
-    length xs ≡ length ys
-zip_length R [] [] h = refl
-zip_length R [] (y ∷ ys) h = absurd h
-zip_length R (x ∷ xs) [] h = absurd h
-zip_length R (x ∷ xs) (y ∷ ys) h = ap suc (zip_length R xs ys h.1)
 
 -- what is said of the elements at one place
 pub zip_at :
@@ -75,7 +67,7 @@ module _ (t : Nodes) (values : List Value) (numbers : List ℕ) (forms : List Va
       let R : Value → Value → Type 0 = IsRelabelledAt t numbers 0 in
       let beside : first_beside numbers y ≡ slice_index firsts y =
       sym (first.first y (omega (arith, first.count))) in
-      let count : length values ≡ length forms = zip_length R values forms are in
+      let count : length values ≡ length forms = sym (AllZip-long R values forms are) in
       let in_own : y < length values = omega (arith, count, slice_get_within forms y s at_own) in
       let in_first : slice_index firsts y < length values =
       omega (arith, count, slice_get_within forms (slice_index firsts y) r at_first) in

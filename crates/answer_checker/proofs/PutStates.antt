@@ -2,7 +2,7 @@
 use Rattle.std.proofs.Common.{◌≡◌, ℕ, ◌+◌, ◌<◌, ◌≤◌, ◌==◌, Bool, true, false, List, [], ◌∷◌, ◌++◌, length, get_or, set, map, take, drop, refl, sym, ap, ◌∙◌, subst, arith, inl, inr}
 use Rattle.std.specs.Prelude.{if◌then◌else◌}
 use Rattle.std.proofs.lemmas.Bool.{cases_eq, eq-eqb, ne_eqb}
-use Rattle.std.proofs.lemmas.List.{take_more, take_all, drop_all, append-nil, map-append, length-map, length-take-le, length-set, get_or-set_same, get_or-set_other}
+use Rattle.std.proofs.lemmas.List.{take_more, take_all, drop_all, append-nil, map-append, length-map, length-take-le, length-set, get_or-set_same, get_or-set_other, map_more}
 use Rattle.answer_checker.specs.Blocks.{BlockLine, line_with, times_among, times_in}
 use Rattle.formula_text.specs.Reading.{block_seen}
 use Rattle.formula_text.specs.declared.answer.BlockLine.{BlockLine as TheBlockLine}
@@ -118,13 +118,6 @@ pub line_begun :
     (lines : List BlockLine) (f : ℕ) (places : List Place) → ArePlaces lines places →
     ArePlaces (lines ++ line_with f [] ∷ []) places
 line_begun lines f places are i h = place_begun lines f i (get_or places i Nowhere) (are i h)
-
--- what is made of one element more
-pub map-take_more :
-    {A B : Type 0} (g : A → B) (xs : List A) (i : ℕ) (d : A) → i < length xs →
-    map g (take (i + 1) xs) ≡ map g (take i xs) ++ g (get_or xs i d) ∷ []
-map-take_more g xs i d h =
-    ap (map g) (take_more xs i d h) ∙ map-append g (take i xs) (get_or xs i d ∷ [])
 
 -- what is made of what is made
 pub map-map :

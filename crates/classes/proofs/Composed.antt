@@ -2,12 +2,12 @@
 use Rattle.std.proofs.Common.{◌≡◌, ℕ, zero, suc, ◌+◌, ◌<◌, ◌≤◌, true, List, [], ◌∷◌, length, map, refl, sym, ap, ◌∙◌, subst, arith}
 use Rattle.std.specs.Prelude.{slice_index, ◌↔◌}
 use Rattle.std.specs.List.{list_all}
-use Rattle.std.proofs.lemmas.List.{length-map}
+use Rattle.std.proofs.lemmas.List.{length-map, get_or-map}
+use Rattle.std.proofs.lemmas.Option.{slice_get_within}
 use Rattle.functor_terms.specs.Terms.{Nodes, IsTerm}
 use Rattle.typing.specs.declared.value.Value.{Value}
 use Rattle.typing.specs.Values.{states_below}
 use Rattle.typing.specs.Stable as coalgebra
-use Rattle.typing.proofs.FirstPlaces.{get_within}
 use Rattle.typing.proofs.StableLaws.{element, under, under_coarser}
 use Rattle.sorted_systems.specs.Systems.{IsGreatestStable, class_in}
 use Rattle.structures.specs.Structures.{Occurrence, IsSorting, numbers_on, numbers_below}
@@ -16,24 +16,7 @@ use Rattle.desorting.specs.Shapes.{sorted_system}
 use Rattle.desorting.specs.Agreement.{root_labels}
 use Rattle.desorting.specs.Laws.{SystemToCoalgebra, GreatestIsEquivalence}
 use Rattle.classes.specs.Firsts.{AreFirstPlaces}
-
-number_at : (first n i : ℕ) → i < n → slice_index (numbers_on first n) i ≡ first + i
-number_at first zero i h = absurd (omega arith)
-number_at first (suc n) zero h = omega arith
-number_at first (suc n) (suc i) h =
-    let next : first + 1 + i ≡ first + suc i = omega arith in
-    number_at (first + 1) n i (omega arith) ∙ next
-
-length-numbers : (first n : ℕ) → length (numbers_on first n) ≡ n
-length-numbers first zero = refl
-length-numbers first (suc n) = ap suc (length-numbers (first + 1) n)
-
-slice_index-map :
-    (f : ℕ → ℕ) (xs : List ℕ) (i : ℕ) → i < length xs →
-    slice_index (map f xs) i ≡ f (slice_index xs i)
-slice_index-map f [] i h = absurd (omega arith)
-slice_index-map f (x ∷ xs) zero h = refl
-slice_index-map f (x ∷ xs) (suc i) h = slice_index-map f xs i (omega arith)
+use Rattle.structures.proofs.WalkEnds.{length-numbers, number_at}
 
 module _
     (equivalence : GreatestIsEquivalence) (to_coalgebra : SystemToCoalgebra) (t : Nodes)
@@ -63,7 +46,7 @@ module _
           let inside : last < length values = omega (arith, ap length e) in
           let (w, at_w) = element values last inside in
           let (o, at_o, is_node, is_value) = sorting.rooted last w at_w in
-          omega (arith, root last inside, get_within occurrences (slice_index roots last) o at_o)
+          omega (arith, root last inside, slice_get_within occurrences (slice_index roots last) o at_o)
 
   module _
       (within : list_all (states_below (length values)) values ≡ true) (firsts : List ℕ)
@@ -88,7 +71,7 @@ module _
 
     label : (i : ℕ) → i < n → slice_index b i ≡ slice_index r i
     label i h =
-        slice_index-map (slice_index r) roots i (omega (arith, length-numbers 0 n))
+        get_or-map (slice_index r) roots i 0 0 (omega (arith, length-numbers 0 n))
         ∙ ap (slice_index r) (root i h)
 
     -- one label, one first place
@@ -128,8 +111,8 @@ module _
     firsts_stable = record {
       covers = are.count;
       equal = λ i j u v at_i at_j same.
-          let hi = get_within values i u at_i in
-          let hj = get_within values j v at_j in
+          let hi = slice_get_within values i u at_i in
+          let hj = slice_get_within values j v at_j in
           under_coarser t values within b firsts are.count refines i j u v at_i at_j
           (stable_b.equal i j u v at_i at_j
           (label i hi ∙ apart i j hi hj same ∙ sym (label j hj)));

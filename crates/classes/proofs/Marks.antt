@@ -1,6 +1,7 @@
 -- First places are found label by label.
 use Rattle.std.proofs.Common.{◌≡◌, ℕ, zero, suc, ◌+◌, ◌<◌, ◌≤◌, min, List, [], ◌∷◌, ◌++◌, length, set, replicate, refl, sym, ap, ◌∙◌, subst, ⊎_elim, arith}
 use Rattle.std.specs.Prelude.{◌⊎◌, slice_index}
+use Rattle.std.proofs.lemmas.Bool.{cases_lt, cases_eq}
 use Rattle.classes.specs.Firsts.{IsFirstPlace, AreFirstPlaces}
 
 -- what is known of each label when i places were looked at: its first place, or n if it has none
@@ -64,12 +65,6 @@ set_length [] k x = refl
 set_length (y ∷ ys) zero x = refl
 set_length (y ∷ ys) (suc k) x = ap suc (set_length ys k x)
 
-low_or_high : (a b : ℕ) → (a < b) ⊎ (b ≤ a)
-low_or_high a b = grind arith
-
-same_or_other : (a b : ℕ) → (a ≡ b) ⊎ (a ≡ b → ⊥)
-same_or_other a b = grind arith
-
 module _
     (labels : List ℕ) (blocks n i : ℕ) (known firsts : List ℕ)
     (marked : AreMarked labels blocks n i known firsts) (low : i < n) (k : ℕ)
@@ -78,7 +73,7 @@ module _
   first = min (slice_index known k) i
 
   pub is_first : IsFirstPlace labels i first
-  is_first = ⊎_elim seen unseen (low_or_high (slice_index known k) n)
+  is_first = ⊎_elim seen unseen (cases_lt (slice_index known k) n)
     where
       seen : slice_index known k < n → IsFirstPlace labels i first
       seen h =
@@ -115,7 +110,7 @@ module _
         (λ same. there_same j same)
         (λ other. let old = marked.there j h (omega (arith, w, kept j other)) in
         (ap (slice_index labels) (kept j other) ∙ old.0, omega (arith, old.1, kept j other)))
-        (same_or_other j k);
+        (cases_eq j k);
     least = λ j h w m e. ⊎_elim
         (λ (same : j ≡ k).
         let here : slice_index after j ≡ first = ap (slice_index after) same ∙ put in
@@ -123,7 +118,7 @@ module _
         (λ other.
         let before = marked.least j h (omega (arith, w, kept j other)) m e in
         omega (arith, kept j other, before))
-        (same_or_other j k);
+        (cases_eq j k);
     absent = λ j h w m e. ⊎_elim
         (λ (same : j ≡ k).
         let here : slice_index after j ≡ first = ap (slice_index after) same ∙ put in
@@ -133,14 +128,14 @@ module _
         ⊎_elim
         (λ (same : m ≡ i). absurd (other (sym e ∙ ap (slice_index labels) same ∙ label)))
         (λ (differ : m ≡ i → ⊥). apart m before differ)
-        (same_or_other m i))
-        (same_or_other j k);
+        (cases_eq m i))
+        (cases_eq j k);
     count = (
         let w : length firsts + 1 ≡ i + 1 = omega (arith, marked.count) in
         one_more firsts first ∙ w);
     each = λ j h.
         ⊎_elim (λ earlier. each_old j earlier) (λ now. each_new j (omega (arith, h, now)))
-        (low_or_high j i);
+        (cases_lt j i);
   }
     where
       apart : (m : ℕ) → i ≤ m → (m ≡ i → ⊥) → i + 1 ≤ m

@@ -2,6 +2,7 @@
 -- their line has them as they stand.
 use Rattle.std.proofs.Common.{◌≡◌, ◌==◌, ◌&&◌, Bool, true, false, not, List, [], ◌∷◌, ◌++◌, Some, None, codes, refl, ap, sym, ◌∙◌, bytes_eq, fold, is_some, unwrap_or, append_assoc, subst}
 use Rattle.std.specs.List.{list_all}
+use Rattle.std.proofs.lemmas.Bool.{not-true, and_parts}
 use Rattle.clap.specs.Words.{Rule, Text, Row, Kinds, built}
 use Rattle.clap.specs.Kinds.{or_else}
 use Rattle.clap.specs.Lexer.{long_of, short_of}
@@ -15,26 +16,18 @@ use Rattle.command_line.specs.Lines.{line_in, line_of}
 use Rattle.command_line.specs.Plain.{is_plain, line_with, PlainWordsAreTaken, FlaggedWordsAreTaken}
 use Rattle.command_line.proofs.ByClap.{line-taken}
 
-not-dash : (b : Bool) → not b ≡ true → b ≡ false
-not-dash true e = sym e
-not-dash false e = refl
-
-both : (a b : Bool) → (a && b) ≡ true → (a ≡ true) × (b ≡ true)
-both true b e = (refl, e)
-both false b e = let bad : false ≡ true = e in cc
-
 -- what a plain word is not
 no-dashes : (word : Text) → is_plain word ≡ true → bytes_eq word (45 ∷ 45 ∷ []) ≡ false
 no-dashes [] e = refl
-no-dashes (b ∷ others) e = rw (not-dash (b == 45) e)
+no-dashes (b ∷ others) e = rw (not-true (b == 45) e)
 
 no-long : (word : Text) → is_plain word ≡ true → long_of word ≡ None
 no-long [] e = refl
-no-long (b ∷ others) e = rw (not-dash (b == 45) e)
+no-long (b ∷ others) e = rw (not-true (b == 45) e)
 
 no-short : (word : Text) → is_plain word ≡ true → short_of word ≡ None
 no-short [] e = refl
-no-short (b ∷ others) e = rw (not-dash (b == 45) e)
+no-short (b ∷ others) e = rw (not-true (b == 45) e)
 
 abbrev shape : Shape
 shape = (built copar_app).top
@@ -196,7 +189,7 @@ rest-walks : (a f : Text) (vs : List Text) (r : Text) (rest : List Text)
     × Walks (in_rest a f vs r) rest (in_rest a f us l)
 rest-walks a f vs r [] p = (vs, r, refl, walks-none _)
 rest-walks a f vs r (n ∷ rest) p =
-    let parts = both (is_plain n) (list_all is_plain rest) p in
+    let parts = and_parts (is_plain n) (list_all is_plain rest) p in
     let (us, l, same, walks) = rest-walks a f (vs ++ r ∷ []) n rest parts.1 in (
       us,
       l,
@@ -251,17 +244,17 @@ WalkTo a f rest =
 plain-walk : (a f : Text) (rest : List Text) → list_all is_plain (a ∷ f ∷ rest) ≡ true
     → WalkTo a f rest
 plain-walk a f [] p =
-    let one = both (is_plain a) (is_plain f && true) p in
-    let two = both (is_plain f) true one.1 in (
+    let one = and_parts (is_plain a) (is_plain f && true) p in
+    let two = and_parts (is_plain f) true one.1 in (
       after_file a f,
       walks-more _ _ _ a (f ∷ []) (turn-action a one.0) (walk-action a one.0)
           (walks-more _ _ _ f [] (turn-file a f two.0) (walk-file a f two.0) (walks-none _)),
       ends-two a f,
     )
 plain-walk a f (r ∷ []) p =
-    let one = both (is_plain a) (is_plain f && (is_plain r && true)) p in
-    let two = both (is_plain f) (is_plain r && true) one.1 in
-    let three = both (is_plain r) true two.1 in (
+    let one = and_parts (is_plain a) (is_plain f && (is_plain r && true)) p in
+    let two = and_parts (is_plain f) (is_plain r && true) one.1 in
+    let three = and_parts (is_plain r) true two.1 in (
       after_rest a f r,
       walks-more _ _ _ a (f ∷ r ∷ []) (turn-action a one.0) (walk-action a one.0)
           (walks-more _ _ _ f (r ∷ []) (turn-file a f two.0) (walk-file a f two.0)
@@ -270,11 +263,11 @@ plain-walk a f (r ∷ []) p =
       ends-three a f r,
     )
 plain-walk a f (r ∷ n ∷ rest) p =
-    let one = both (is_plain a)
+    let one = and_parts (is_plain a)
     (is_plain f && (is_plain r && (is_plain n && list_all is_plain rest))) p in
-    let two = both (is_plain f) (is_plain r && (is_plain n && list_all is_plain rest)) one.1 in
-    let three = both (is_plain r) (is_plain n && list_all is_plain rest) two.1 in
-    let four = both (is_plain n) (list_all is_plain rest) three.1 in
+    let two = and_parts (is_plain f) (is_plain r && (is_plain n && list_all is_plain rest)) one.1 in
+    let three = and_parts (is_plain r) (is_plain n && list_all is_plain rest) two.1 in
+    let four = and_parts (is_plain n) (list_all is_plain rest) three.1 in
     let (us, l, same, walks) = rest-walks a f (r ∷ []) n rest four.1 in (
       in_rest a f us l,
       walks-more _ _ _ a (f ∷ r ∷ n ∷ rest) (turn-action a one.0) (walk-action a one.0)

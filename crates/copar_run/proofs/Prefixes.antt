@@ -3,17 +3,7 @@ use Rattle.std.proofs.Common.{◌≡◌, ℕ, ◌+◌, ◌≤◌, arith, List, [
 use Rattle.std.proofs.Math.Seq.{take-append-add}
 use Rattle.std.proofs.lemmas.List.{take-append-le, take_min}
 use Rattle.std.specs.Io.KnownBytes.{append_known}
-
--- the bytes of two writes, one after the other
-append_known_twice : (known : Option (List ℕ)) (a b : List ℕ)
-    → append_known (append_known known a) b ≡ append_known known (a ++ b)
-append_known_twice None a b = refl
-append_known_twice (Some xs) a b = ap Some (append_assoc xs a b)
-
--- no byte
-pub append_known_none : (known : Option (List ℕ)) → append_known known [] ≡ known
-append_known_none None = refl
-append_known_none (Some xs) = ap Some (append-nil xs)
+use Rattle.outside.proofs.Taking.{append_known_none, append_known_twice}
 
 -- some bytes of the text from its front were taken
 abbrev pub TookFront : Option (List ℕ) → Option (List ℕ) → List ℕ → Type 0

@@ -3,26 +3,25 @@ use Rattle.std.proofs.Common.{◌≡◌, ℕ, ◌+◌, ◌<◌, false, List, [],
 use Rattle.std.specs.Prelude.{◌⊎◌, ◌==◌}
 use Rattle.std.specs.List.{AllZip}
 use Rattle.std.proofs.lemmas.Bool.Decides.{nat_tests}
+use Rattle.std.proofs.lemmas.Option.{same_Some, none-some, slice_get_within}
 use Rattle.functor_terms.specs.Terms.{Nodes}
 use Rattle.typing.specs.Layers.{Place, leaves_of}
 use Rattle.edge_store.specs.Edges.{chosen}
 use Rattle.structures.specs.Structures.{repeated, sources_from}
 use Rattle.structures.proofs.Expands.{append_none}
 use Rattle.structures.proofs.Chosen.{length-repeated, chosen-append, chosen-repeated, chosen-other, chosen-past, sources-snoc}
-use Rattle.structures.proofs.Sound.{some_first, none_some, first_part, within}
+use Rattle.structures.proofs.Sound.{first_part}
 use Rattle.desorting.specs.Numbered.{AreBlocks}
-
-later_test : (a b : ℕ) → b < a → (a == b) ≡ false
-later_test a b h = grind (arith, nat_tests)
+use Rattle.structures.proofs.Chosen.{later_test}
 
 at_last : {X : Type 0} (xs : List X) (x z : X) → slice_get (xs ++ x ∷ []) (length xs) ≡ Some z
     → x ≡ z
-at_last [] x z e = some_first x z e
+at_last [] x z e = same_Some x z e
 at_last (y ∷ ys) x z e = at_last ys x z e
 
 module _ {X : Type 0} (t : Nodes) (R : Place → List X → Type 0) where
   pub blocks_none : AreBlocks t R [] []
-  blocks_none = record { one_each = refl; each = λ y x e. absurd (none_some x e) }
+  blocks_none = record { one_each = refl; each = λ y x e. absurd (none-some x e) }
 
   module _
       (places : List Place) (xs : List X) (blocks : AreBlocks t R places xs) (x : Place)
@@ -87,7 +86,7 @@ module _ {X : Type 0} (t : Nodes) (R : Place → List X → Type 0) where
           );
       each = λ y z e.
           ⊎_elim (λ earlier. old y z earlier e) (λ last. now y z last e)
-          (cases y (omega (arith, within all y z e, length-append places (x ∷ []))));
+          (cases y (omega (arith, slice_get_within all y z e, length-append places (x ∷ []))));
     }
       where
         cases : (y : ℕ) → y < length places + 1 → (y < length places) ⊎ (y ≡ length places)

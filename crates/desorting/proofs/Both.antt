@@ -3,15 +3,15 @@ use Rattle.std.proofs.Common.{◌≡◌, ℕ, zero, suc, ◌<◌, true, List, []
 use Rattle.std.specs.Prelude.{slice_index, ◌↔◌}
 use Rattle.std.specs.List.{AllZip}
 use Rattle.std.specs.Option.{option_map}
-use Rattle.std.proofs.lemmas.List.{length-map}
-use Rattle.std.proofs.lemmas.Option.{slice_get-map}
+use Rattle.std.proofs.lemmas.List.{length-map, get_or-map}
+use Rattle.std.proofs.lemmas.Option.{slice_get-map, none-some, same_Some, slice_get_within}
+use Rattle.std.proofs.lemmas.Slice.Zip.{AllZip-long}
 use Rattle.functor_terms.specs.Terms.{Nodes, IsTerm, node_at, children_at}
 use Rattle.typing.specs.declared.value.Value.{Value}
 use Rattle.typing.specs.Values.{relabelled}
 use Rattle.typing.specs.Layers.{child_places}
 use Rattle.typing.specs.Equality.{are_equal}
 use Rattle.typing.specs.Stable as coalgebra
-use Rattle.typing.proofs.FirstPlaces.{get_within, some_same}
 use Rattle.typing.proofs.StableLaws.{element}
 use Rattle.iface.specs.Structures.{Classed}
 use Rattle.sorted_systems.specs.Systems.{IsState, IsStable, IsGreatestStable, class_in, seen}
@@ -25,19 +25,9 @@ use Rattle.desorting.proofs.Desorting.{linked_children, to_coalgebra, to_system,
 -- what stands at a place of a mapped list
 pub mapped_at : {X Y : Type 0} (f : X → Y) (xs : List X) (i : ℕ) (y : Y)
     → slice_get (map f xs) i ≡ Some y → (x : X) × (slice_get xs i ≡ Some x) × (f x ≡ y)
-mapped_at f [] i y e = absurd (none_some y e)
-  where
-    none_some : {Y : Type 0} (y : Y) → None ≡ Some y → ⊥
-    none_some y e = cc
-mapped_at f (x ∷ xs) zero y e = (x, refl, some_same (f x) y e)
+mapped_at f [] i y e = absurd (none-some y e)
+mapped_at f (x ∷ xs) zero y e = (x, refl, same_Some (f x) y e)
 mapped_at f (x ∷ xs) (suc i) y e = mapped_at f xs i y e
-
-pub zip_length : {A B : Type 0} (R : A → B → Type 0) (xs : List A) (ys : List B) → AllZip R xs ys
-    → length ys ≡ length xs
-zip_length R [] [] h = refl
-zip_length R [] (y ∷ ys) h = absurd h
-zip_length R (x ∷ xs) [] h = absurd h
-zip_length R (x ∷ xs) (y ∷ ys) h = ap (λ n. suc n) (zip_length R xs ys h.1)
 
 module _ (t : Nodes) (values : List Value) (system : List Occurrence) (roots : List ℕ)
     (is_term : IsTerm t) (sorting : IsSorting t values system roots) where
@@ -65,7 +55,7 @@ module _ (t : Nodes) (values : List Value) (system : List Occurrence) (roots : L
       → length (classes s o) ≡ length (child_places (node_at t o.node) (children_at t o.node) o.node
       o.value)
   one_class s o x at = length-map o.targets (class_in s)
-      ∙ zip_length _ (child_places (node_at t o.node) (children_at t o.node) o.node o.value)
+      ∙ AllZip-long _ (child_places (node_at t o.node) (children_at t o.node) o.node o.value)
       o.targets (linked_children t values system roots sorting x o at)
 
   to_sorting : (s : List ℕ) → IsStable any_agree (sorted_system t system) s
@@ -137,12 +127,6 @@ module _ (t : Nodes) (values : List Value) (system : List Occurrence) (roots : L
   stable_to_system b s stable joined = from_sorting s (to_system t values system roots is_term
       sorting b s stable joined)
 
-  slice_index-map : (f : ℕ → ℕ) (xs : List ℕ) (i : ℕ) → i < length xs
-      → slice_index (map f xs) i ≡ f (slice_index xs i)
-  slice_index-map f [] i h = absurd (omega arith)
-  slice_index-map f (x ∷ xs) zero h = refl
-  slice_index-map f (x ∷ xs) (suc i) h = slice_index-map f xs i (omega arith)
-
   -- the greatest stable labelling joins two root structures exactly if their states are equivalent
   pub roots_together : (r : List ℕ) → IsGreatestStable any_agree (sorted_system t system) r
       → (i j : ℕ) → i < length values → j < length values
@@ -162,7 +146,7 @@ module _ (t : Nodes) (values : List Value) (system : List Occurrence) (roots : L
     where
       label : (i : ℕ) → i < length values
           → slice_index (root_labels roots r) i ≡ class_in r (slice_index roots i)
-      label i h = slice_index-map (class_in r) roots i (subst (λ n. i < n) (sym sorting.one_root) h)
+      label i h = get_or-map (class_in r) roots i 0 0 (subst (λ n. i < n) (sym sorting.one_root) h)
 
       joined : (b : List ℕ) → coalgebra.IsStable t values b → slice_index b i ≡ slice_index b j
           → class_in r (slice_index roots i) ≡ class_in r (slice_index roots j)
@@ -180,6 +164,6 @@ module _ (t : Nodes) (values : List Value) (system : List Occurrence) (roots : L
           (node_o ∙ sym node_p, equal) in
           let inside : (x : ℕ) (o : Occurrence) → slice_get system x ≡ Some o
           → x < length (sorted_system t system) = λ x o at. subst (λ n. x < n)
-          (sym (length-map system (sorted_of t))) (get_within system x o at) in
+          (sym (length-map system (sorted_of t))) (slice_get_within system x o at) in
           greatest.greatest s (stable_to_system b s stable join) (slice_index roots i)
           (slice_index roots j) (inside _ o at_o) (inside _ p at_p) together

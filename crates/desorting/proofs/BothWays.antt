@@ -11,7 +11,7 @@ use Rattle.functor_terms.specs.declared.node.Node.TheVariants.{State, Constant, 
 use Rattle.typing.specs.declared.value.Value.{Value, Value-F, out-Value}
 use Rattle.typing.specs.Values.{label, index, inner, parts, entries, relabelled, index_in}
 use Rattle.typing.specs.Layers.{Place, at_child, weighed, child_places}
-use Rattle.structures.proofs.AtChild.{suc_not_zero, picked_in, at_child-within}
+use Rattle.structures.proofs.AtChild.{picked_in, at_child-within}
 use Rattle.typing.specs.Fits.{Check, fits_level, fits_step, check_at}
 use Rattle.typing.specs.Equality.{Test, test_at, each_place, same_members, same_weights, eq_step}
 use Rattle.typing.proofs.MapLaws.{parts_map, index_map, inner_map, entries_map, label_map}
@@ -19,6 +19,8 @@ use Rattle.desorting.specs.Agreement.{AgreeAt}
 use Rattle.structures.proofs.Arities.{HasOne}
 use Rattle.desorting.proofs.Steps.{ClassesEqual, EqualsMeet, product-equal, product-agree, power-equal, power-agree, members-equal, members-agree}
 use Rattle.desorting.proofs.WeightSteps.{weights-equal, weights-agree}
+use Rattle.typing.proofs.TermFacts.{not_zero}
+use Rattle.structures.proofs.GoodChildren.{check_within}
 
 -- the k-th test of a list of tests, one for each node
 pub test_at-map : (E : ℕ → Test) (qs : List ℕ) (k : ℕ) → k < length qs
@@ -27,17 +29,8 @@ test_at-map E [] k h = absurd (omega arith)
 test_at-map E (q ∷ qs) zero h = refl
 test_at-map E (q ∷ qs) (suc k) h =
     let one : suc k - 1 ≡ k = omega arith in
-    ap (λ o. if o then E q else test_at (map E qs) (suc k - 1)) (suc_not_zero k)
+    ap (λ o. if o then E q else test_at (map E qs) (suc k - 1)) (not_zero k)
     ∙ ap (test_at (map E qs)) one ∙ test_at-map E qs k (omega arith)
-
-pub check_within : (fs : List Check) (k : ℕ) (v : Value) → check_at fs k v ≡ true → k < length fs
-check_within [] k v h = absurd (true≢false (sym h))
-check_within (f ∷ fs) zero v h = omega arith
-check_within (f ∷ fs) (suc k) v h =
-    let one : suc k - 1 ≡ k = omega arith in
-    let later : check_at fs k v ≡ true = sym (ap (λ o. (if o then f else check_at fs (suc k - 1)) v)
-    (suc_not_zero k) ∙ ap (λ n. check_at fs n v) one) ∙ h in
-    omega (arith, check_within fs k v later)
 
 pub sum_within : (fs : List Check) (v : Value) → fits_step Sum fs v ≡ true → index v < length fs
 sum_within fs v h = by (out-Value v) h

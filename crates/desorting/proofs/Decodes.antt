@@ -2,7 +2,7 @@
 use Rattle.std.proofs.Common.{◌≡◌, ℕ, zero, suc, ◌+◌, ◌^◌, true, List, [], ◌∷◌, length, map, Some, slice_get, refl, sym, ap, ◌∙◌, subst, arith}
 use Rattle.std.specs.Prelude.{ℤ}
 use Rattle.std.specs.List.{AllZip}
-use Rattle.std.proofs.lemmas.Option.{get_or_from_slice_get}
+use Rattle.std.proofs.lemmas.Option.{get_or_from_slice_get, same_Some, none-some}
 use Rattle.functor_terms.specs.Terms.{Nodes, IsTerm, node_at, children_at}
 use Rattle.functor_terms.proofs.Folds.{fold-at}
 use Rattle.typing.specs.Fits.{Check, fits, fits_step, no_check}
@@ -17,7 +17,7 @@ use Rattle.layers.specs.Packing.{class_of}
 use Rattle.layers.specs.Meanings.{shape_at, side_of, shape_of as shape_with, label_by, label_of, fits_class, fits_layer}
 use Rattle.structures.specs.Structures.{Occurrence, occurrences_from}
 use Rattle.structures.proofs.Leaves.{leaves-children}
-use Rattle.structures.proofs.Sound.{some_first, none_some, fits_inside}
+use Rattle.structures.proofs.Sound.{fits_inside}
 use Rattle.desorting.specs.Shapes.{shape_of, labels_of, sorted_of, sorted_system}
 use Rattle.desorting.specs.Numbered.{layer_shape, IsLabelled}
 use Rattle.desorting.proofs.Numbers.{side_is, labels_read, labels_fit}
@@ -113,7 +113,7 @@ module _
         (fits t x.0 x.1 ≡ true) × (is_within (2 ^ 106) x.1 ≡ true)) →
         (y : ℕ) (a : Sorted ℕ ℕ) → slice_get (system_from first numbers edges) y ≡ Some a →
         fits_layer shapes table a.shape a.labels
-    system_fits first [] [] z h g y a e = absurd (none_some a e)
+    system_fits first [] [] z h g y a e = absurd (none-some a e)
     system_fits first [] (s ∷ ss) z h g y a e = absurd z
     system_fits first (x ∷ xs) [] z h g y a e = absurd z
     system_fits first (x ∷ xs) (s ∷ ss) z h g zero a e =
@@ -121,7 +121,7 @@ module _
         let here : IsEdged first x = subst (λ n. IsEdged n x) zeroth (h 0 x refl) in
         let good = g 0 x refl in
         subst (λ (a : Sorted ℕ ℕ). fits_layer shapes table a.shape a.labels)
-        (some_first (packed first s) a e) (one_fits first x s good.0 good.1 z.0 here)
+        (same_Some (packed first s) a e) (one_fits first x s good.0 good.1 z.0 here)
     system_fits first (x ∷ xs) (s ∷ ss) z h g (suc y) a e =
         system_fits (first + 1) xs ss z.1 (λ y w e.
         let next : first + suc y ≡ first + 1 + y = omega arith in

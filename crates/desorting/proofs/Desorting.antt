@@ -6,8 +6,8 @@ use Rattle.std.specs.Option.{option_eq, option_map}
 use Rattle.std.specs.Cmp.{IsEquivalence}
 use Rattle.std.proofs.lemmas.Cmp.{nat_eq_equiv, on_equiv}
 use Rattle.std.proofs.lemmas.Bool.{eqb-true, eq-eqb, and_parts, and_from}
-use Rattle.std.proofs.lemmas.List.{length-map}
-use Rattle.std.proofs.lemmas.Option.{get_or_from_slice_get, slice_get-map}
+use Rattle.std.proofs.lemmas.List.{length-map, get_or-map}
+use Rattle.std.proofs.lemmas.Option.{get_or_from_slice_get, slice_get-map, slice_get_within}
 use Rattle.functor_terms.specs.declared.node.Node.{Node}
 use Rattle.functor_terms.specs.declared.node.Node.TheVariants.{State}
 use Rattle.functor_terms.specs.Terms.{Nodes, IsTerm, node_at, children_at}
@@ -19,8 +19,8 @@ use Rattle.typing.specs.Fits.{Check, fits, fits_step, no_check}
 use Rattle.typing.specs.Equality.{Test, no_test, eq_step, are_equal}
 use Rattle.typing.specs.Stable.{IsStable}
 use Rattle.typing.proofs.MapLaws.{state_map}
-use Rattle.typing.proofs.EqualityLaws.{eq-equivalence}
-use Rattle.typing.proofs.FirstPlaces.{get_within, first_of, first_of-same, first_of-equal}
+use Rattle.typing.proofs.EqualityLaws.{eq-equivalence, chosen_symm, chosen_congr}
+use Rattle.typing.proofs.FirstPlaces.{first_of, first_of-same, first_of-equal}
 use Rattle.typing.proofs.StableLaws.{element}
 use Rattle.structures.specs.Structures.{Occurrence, StandsFor, LeadsBy, IsSorting}
 use Rattle.desorting.specs.Agreement.{AgreeAt, IsStableSorting, root_labels, IsJoined}
@@ -31,12 +31,6 @@ use Rattle.structures.proofs.Sound.{fits_inside}
 use Rattle.desorting.proofs.Steps.{ClassesEqual, EqualsMeet}
 use Rattle.desorting.proofs.BothWays.{layer-equal, layer-agree}
 
-slice_index-map : (f : ℕ → ℕ) (xs : List ℕ) (i : ℕ) → i < length xs
-    → slice_index (map f xs) i ≡ f (slice_index xs i)
-slice_index-map f [] i h = absurd (omega arith)
-slice_index-map f (x ∷ xs) zero h = refl
-slice_index-map f (x ∷ xs) (suc i) h = slice_index-map f xs i (omega arith)
-
 -- the targets of a sorted state, child by child
 pub linked_children : (t : Nodes) (values : List Value) (system : List Occurrence) (roots : List ℕ)
     → IsSorting t values system roots → (x : ℕ) (o : Occurrence) → slice_get system x ≡ Some o
@@ -45,24 +39,6 @@ pub linked_children : (t : Nodes) (values : List Value) (system : List Occurrenc
 linked_children t values system roots sorting x o at =
     subst (λ l. AllZip (λ place y. LeadsBy system roots (node_at t place.0) place y) l o.targets)
     (leaves-children t (o.node, o.value)) (sorting.linked x o at)
-
--- a choice, and what is compared there
-module _ (f : ℕ → Test) (is : (k : ℕ) → IsEquivalence (f k)) where
-  chosen_symm : (i j : ℕ) (x y : Value) → ((i == j) && f i x y) ≡ ((j == i) && f j y x)
-  chosen_symm i j x y = by (i == j) refl
-    where
-      by : (b : Bool) → (i == j) ≡ b → ((i == j) && f i x y) ≡ ((j == i) && f j y x)
-      by true e = ap (λ b. b && f i x y) e ∙ (is i).symm x y ∙ ap (λ k. f k y x) (eqb-true i j e)
-          ∙ sym (ap (λ b. b && f j y x) (nat_eq_equiv.symm j i ∙ e))
-      by false e = ap (λ b. b && f i x y) e
-          ∙ sym (ap (λ b. b && f j y x) (nat_eq_equiv.symm j i ∙ e))
-
-  chosen_congr : (i j k : ℕ) (x y z : Value) → ((i == j) && f i x y) ≡ true
-      → ((i == k) && f i x z) ≡ ((j == k) && f j y z)
-  chosen_congr i j k x y z h =
-      let p = and_parts (i == j) (f i x y) h in
-      ap (λ b. (i == k) && b) ((is i).congr x y z p.1)
-      ∙ ap (λ n. (n == k) && f n y z) (eqb-true i j p.0)
 
 module _ (t : Nodes) (values : List Value) (system : List Occurrence) (roots : List ℕ)
     (is_term : IsTerm t) (sorting : IsSorting t values system roots) (b s : List ℕ) where
@@ -122,7 +98,7 @@ module _ (t : Nodes) (values : List Value) (system : List Occurrence) (roots : L
   -- from the system to the coalgebra
   module _ (labels : b ≡ root_labels roots s) (stable : IsStableSorting t system s) where
     label_is : (i : ℕ) → i < length roots → slice_index b i ≡ class_of (slice_index roots i)
-    label_is i h = ap (λ l. slice_index l i) labels ∙ slice_index-map class_of roots i h
+    label_is i h = ap (λ l. slice_index l i) labels ∙ get_or-map class_of roots i 0 0 h
 
     -- at a State node
     state_claim : (q : ℕ) (u w : Value) (c : ℕ) → node_at t q ≡ State → HasClass (q, u) c
@@ -192,9 +168,9 @@ module _ (t : Nodes) (values : List Value) (system : List Occurrence) (roots : L
       covers = ap length labels ∙ length-map roots class_of ∙ sorting.one_root;
       equal = λ i j u v at_i at_j same.
           let in_i : i < length roots = subst (λ n. i < n) (sym sorting.one_root)
-          (get_within values i u at_i) in
+          (slice_get_within values i u at_i) in
           let in_j : j < length roots = subst (λ n. j < n) (sym sorting.one_root)
-          (get_within values j v at_j) in
+          (slice_get_within values j v at_j) in
           stand 0 (some_node t is_term) (λ k child. let (later, last) = term-later t is_term 0 k
           child in claim (length t) k (omega arith) last)
           (slice_index roots i) (slice_index roots j) u v (sorting.rooted i u at_i)

@@ -6,7 +6,6 @@ mod Counts
 mod Decodes
 mod Desorting
 mod Made
-mod Merge
 mod Numbers
 mod Snoc
 mod Steps

@@ -2,6 +2,7 @@
 use Rattle.std.proofs.Common.{◌≡◌, ℕ, suc, ◌+◌, ◌<◌, ◌≤◌, ◌^◌, Bool, true, false, List, [], ◌∷◌, length, Some, slice_get, sym, ap, ◌∙◌, subst, arith}
 use Rattle.std.specs.Prelude.{ℤ, ◌==◌, if◌then◌else◌}
 use Rattle.std.proofs.lemmas.List.{length-map}
+use Rattle.std.proofs.lemmas.Slice.Zip.{AllZip-long}
 use Rattle.functor_terms.specs.Terms.{Nodes, IsTerm, node_at}
 use Rattle.typing.specs.declared.value.Value.{Value}
 use Rattle.typing.specs.Fits.{fits}
@@ -18,7 +19,6 @@ use Rattle.structures.proofs.Sound.{fits_inside}
 use Rattle.structures.proofs.WalkEnds.{occurrence_at}
 use Rattle.desorting.specs.Shapes.{sorted_system}
 use Rattle.desorting.specs.Numbered.{IsLabelled, AreNumbered}
-use Rattle.desorting.proofs.Both.{zip_length}
 use Rattle.desorting.proofs.Decodes.{IsEdged, system_read, system_fits}
 
 few_chosen : {X : Type 0} (k : ℕ) (keys : List ℕ) (xs : List X)
@@ -47,7 +47,7 @@ module _
       (y : ℕ) (x : Place) → slice_get places y ≡ Some x →
       length (chosen (0 + y) sources targets) ≡ length (leaves_of t x)
   leaf_count y x e =
-      zip_length
+      AllZip-long
       (λ z k. LeadsBy (occurrences_from 0 places sources targets)
       (numbers_below (length values)) (node_at t z.0) z k) (leaves_of t x)
       (chosen (0 + y) sources targets)
@@ -65,7 +65,7 @@ module _
       (shapes : List LayerShape) (table : List ℤ) (numbers labels : List ℕ)
       (numbered : AreNumbered t shapes table places numbers labels) where
     pub one_number : length numbers ≡ length places
-    one_number = zip_length _ places numbers numbered.shaped
+    one_number = AllZip-long _ places numbers numbered.shaped
 
     pub one_label : length labels ≡ length sources
     one_label = numbered.labelled.one_each ∙ sym (ap length are.by_source)

@@ -3,6 +3,7 @@ use Rattle.std.proofs.Common.{◌≡◌, ℕ, ◌+◌, ◌<◌, ◌≤◌, ◌^�
 use Rattle.std.specs.Prelude.{ℤ, pos}
 use Rattle.std.proofs.lemmas.List.{length-map}
 use Rattle.std.proofs.lemmas.Option.{get_or_from_slice_get}
+use Rattle.std.proofs.lemmas.Slice.Zip.{AllZip-long}
 use Rattle.functor_terms.specs.declared.node.Node.{Node}
 use Rattle.functor_terms.specs.declared.node.Node.TheVariants.{State, Constant, Naturals, Product, Sum, Power, Powerset, Bag, Distribution, Integers, Rationals}
 use Rattle.functor_terms.specs.Terms.{Nodes, IsTerm, node_at, children_at}
@@ -25,7 +26,6 @@ use Rattle.structures.proofs.Leaves.{leaves-children}
 use Rattle.desorting.specs.Shapes.{shape_of, labels_of}
 use Rattle.desorting.specs.Numbered.{kind_of, layer_shape, weights_in, AreWeighed, AreLabelled, IsLabelled, AreNumbered}
 use Rattle.desorting.proofs.Counts.{length-numbers}
-use Rattle.desorting.proofs.Both.{zip_length}
 use Rattle.desorting.proofs.Blocks.{blocks_more, blocks_kept, zip_kept, zip_more}
 use Rattle.desorting.proofs.BothWays.{sum_within}
 
@@ -84,7 +84,7 @@ module _ (table : List ℤ) (ys : List ℕ) where
       (qs : List ℕ) (v : Value) → 0 < length qs → AreWeighed table (weights_in v) ys →
       length ys ≡ length (at_child qs 0 (weighed v))
   weights_count qs v one h =
-      zip_length (λ w y. slice_get table y ≡ Some w) (weights_in v) ys h
+      AllZip-long (λ w y. slice_get table y ≡ Some w) (weights_in v) ys h
       ∙ length-map (entries v) (λ (e : Value × ℤ). e.1)
       ∙ sym (length-map (entries v) (λ (e : Value × ℤ). e.0))
       ∙ count_within qs 0 (weighed v) one

@@ -3,7 +3,7 @@ use Rattle.std.proofs.Common.{◌≡◌, ℕ, Bool, true, false, ◌||◌, List,
 use Rattle.std.specs.Prelude.{◌==◌}
 use Rattle.std.specs.Cmp.Lexicographic.{pointwise}
 use Rattle.std.specs.List.{list_all, zip, AllZip}
-use Rattle.std.proofs.lemmas.Bool.{and_parts, and_from, or_cases, eqb-true, eq-eqb}
+use Rattle.std.proofs.lemmas.Bool.{and_parts, and_from, or_cases, eqb-true, eq-eqb, or_left, or_right}
 use Rattle.typing.specs.declared.value.Value.{Value}
 use Rattle.typing.specs.Values.{relabelled}
 use Rattle.typing.specs.Layers.{Place}
@@ -92,14 +92,6 @@ module _ (R : Place → ℕ → Type 0) (b : List ℕ) (E : ℕ → Test) where
         let p = and_parts (equal_at q u w) (pointwise (E q) (map (relabelled b) us)
         (map (relabelled b) ws)) e in
         λ i. h u w c d x.0 y.0 p.0 i ∷ power-agree us ws cs ds h x.1 y.1 p.1 i
-
-    -- sets
-    or_left : (x y : Bool) → x ≡ true → (x || y) ≡ true
-    or_left x y h = ap (λ o. o || y) h
-
-    or_right : (x y : Bool) → y ≡ true → (x || y) ≡ true
-    or_right true y h = refl
-    or_right false y h = h
 
     -- a class that occurs has an equal element
     met : (ws : List Value) (ds : List ℕ) (u : Value) (c : ℕ) → ClassesEqual q

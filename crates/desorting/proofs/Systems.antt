@@ -3,6 +3,8 @@ use Rattle.std.proofs.Common.{◌≡◌, ℕ, zero, suc, ◌<◌, ◌≤◌, ◌
 use Rattle.std.specs.Prelude.{ℤ, slice_index}
 use Rattle.std.specs.List.{AllZip}
 use Rattle.std.proofs.lemmas.List.{length-map}
+use Rattle.std.proofs.lemmas.Slice.Zip.{AllZip-long}
+use Rattle.std.proofs.lemmas.Option.{slice_get_within}
 use Rattle.functor_terms.specs.declared.node.Node.{Node}
 use Rattle.functor_terms.specs.declared.node.Node.TheVariants.{State, Constant, Naturals, Product, Sum, Power, Powerset, Bag, Distribution, Integers, Rationals}
 use Rattle.functor_terms.specs.Terms.{Nodes, IsTerm, node_at, children_at}
@@ -15,7 +17,6 @@ use Rattle.structures.proofs.Arities.{has_one}
 use Rattle.structures.proofs.Sound.{fits_inside}
 use Rattle.desorting.proofs.BothWays.{sum_within}
 use Rattle.typing.specs.Layers.{Place, child_places}
-use Rattle.typing.proofs.FirstPlaces.{get_within}
 use Rattle.typing.proofs.StableLaws.{element}
 use Rattle.weights.specs.Sums.{size_of}
 use Rattle.layers.specs.NestLabels.{all_left, bag_fit, whole_fit, scaled_fit, dist_fit, places_fit}
@@ -27,7 +28,7 @@ use Rattle.desorting.specs.Shapes.{shape_of, labels_of, sorted_of, sorted_system
 use Rattle.desorting.proofs.Bridge.{node_is}
 use Rattle.desorting.proofs.Counts.{labels_count}
 use Rattle.desorting.proofs.Weighed.{weights_within}
-use Rattle.desorting.proofs.Both.{mapped_at, zip_length}
+use Rattle.desorting.proofs.Both.{mapped_at}
 
 module _ (qs : List ℕ) (p : ℕ) (v : Value) (k : ℕ) (small : size_of (λ (x : ℤ). x)
     (map (λ e. e.1) (entries v)) ≤ 2 ^ 106) where
@@ -87,8 +88,8 @@ module _ (t : Nodes) (values : List Value) (system : List Occurrence) (roots : L
   lead_inside State z y (i, is_i, in_i, at_i) =
       let (v, at_v) = element values i (subst (λ n. i < n) sorting.one_root in_i) in
       let (o, at_o, _, _) = sorting.rooted i v at_v in
-      subst (λ k. k < length system) at_i (get_within system (slice_index roots i) o at_o)
-  lead_inside m z y h = get_within system y h.0 h.1
+      subst (λ k. k < length system) at_i (slice_get_within system (slice_index roots i) o at_o)
+  lead_inside m z y h = slice_get_within system y h.0 h.1
 
   all_inside : (places : List Place) (targets : List ℕ)
       → AllZip (λ z y. LeadsBy system roots (node_at t z.0) z y) places targets → (k d : ℕ)
@@ -102,7 +103,7 @@ module _ (t : Nodes) (values : List Value) (system : List Occurrence) (roots : L
   count : (x : ℕ) (o : Occurrence) → slice_get system x ≡ Some o
       → length o.targets ≡ length (child_places (node_at t o.node) (children_at t o.node) o.node
       o.value)
-  count x o e = zip_length _ (child_places (node_at t o.node) (children_at t o.node) o.node o.value)
+  count x o e = AllZip-long _ (child_places (node_at t o.node) (children_at t o.node) o.node o.value)
       o.targets (linked_children t values system roots sorting x o e)
 
   pub sorting_is_system : IsSystem any_node any_kin any_fits (sorted_system t system)

@@ -17,7 +17,7 @@ use Rattle.typing.proofs.Tests.{same_weights-Decides}
 use Rattle.weights.specs.Sums.{sum_if}
 use Rattle.desorting.specs.Agreement.{SameSums}
 use Rattle.desorting.proofs.Steps.{ClassesEqual, EqualsMeet}
-use Rattle.desorting.proofs.Merge.{weight_in, coarser_sums}
+use Rattle.typing.proofs.Weights.{weight_in, coarser_sums_everywhere}
 
 -- an element of a list with its class
 record Placed (R : Place → ℕ → Type 0) (q : ℕ) : Type 0 where
@@ -94,7 +94,7 @@ module _ (R : Place → ℕ → Type 0) (b : List ℕ) (E : ℕ → Test) (q : �
     weights-equal us ws cs ds h x y same =
         let merged : (a : Placed R q) → weight_in same_value (placed us cs x) a ≡ weight_in same_value
         (placed ws ds y) a =
-        coarser_sums same_class same_value class-equivalence value-equivalence
+        coarser_sums_everywhere same_class same_value class-equivalence value-equivalence
         (λ v w e. h v.value w.value w.class (subst (λ k. R (q, v.value) k)
         (eqb-true v.class w.class e) v.known) w.known)
         (placed us cs x) (placed ws ds y) (λ a. class_sums us cs x a ∙ same a.class
@@ -137,7 +137,7 @@ module _ (R : Place → ℕ → Type 0) (b : List ℕ) (E : ℕ → Test) (q : �
         (relabelled b a.value) ∙ sym (value_sums ws ds y a) in
         let merged : (a : Placed R q) → weight_in same_class (placed us cs x) a ≡ weight_in same_class
         (placed ws ds y) a =
-        coarser_sums same_value same_class value-equivalence class-equivalence
+        coarser_sums_everywhere same_value same_class value-equivalence class-equivalence
         (λ v w same. meets v w same) (placed us cs x) (placed ws ds y) equal in
         let at : ((a : Placed R q) × (a.class ≡ k)) → sum_at k us cs ≡ sum_at k ws ds =
         λ a. subst (λ c. sum_at c us cs ≡ sum_at c ws ds) a.1 (sym (class_sums us cs x a.0)

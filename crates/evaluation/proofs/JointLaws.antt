@@ -18,10 +18,7 @@ use Rattle.typing.specs.declared.value.Value.{Value}
 use Rattle.typing.specs.Bounds.{absolute_sum}
 use Rattle.typing.specs.Equality.{the_sum}
 use Rattle.formula_checker.specs.LayerValues.{joint_with}
-
--- the size of a sum
-pub triangle : (a b : ℤ) → unsigned_abs (a +ℤ b) ≤ unsigned_abs a + unsigned_abs b
-triangle a b = omega (arith, ints)
+use Rattle.typing.proofs.WeightSums.{triangle}
 
 module _ (plus : ℤ → ℤ → ℤ) (k : ℕ) where
   no_trits : (es : List (Value × ℤ)) → joint_with plus es [] k ≡ pos 0

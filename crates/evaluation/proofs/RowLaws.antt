@@ -13,6 +13,7 @@ use Rattle.std.specs.Prelude.{slice_index, ◌==◌, if◌then◌else◌}
 use Rattle.std.specs.List.{AllZip}
 use Rattle.std.specs.Option.{option_map_or}
 use Rattle.std.proofs.lemmas.Bool.{cases_lt}
+use Rattle.std.proofs.lemmas.Option.{same_Some}
 use Rattle.functor_terms.specs.declared.node.Node.{Node}
 use Rattle.functor_terms.specs.declared.node.Node.TheVariants.{State, Constant, Naturals, Product, Sum, Power, Powerset, Bag, Distribution, Integers, Rationals}
 use Rattle.functor_terms.specs.Terms.{Nodes, node_at}
@@ -34,9 +35,6 @@ use Rattle.satisfaction.specs.Satisfaction.{layers_of, holds_at}
 use Rattle.evaluation.specs.Truths.{truth_at, row_at, truth_in}
 use Rattle.evaluation.specs.Uses.{IsUsedAt, AreLastUses, KeepsRows}
 use Rattle.evaluation.specs.Rows.{AreLaidOut, trits_of, truth_by, Tells, IsEvaluating}
-
-some_same : {X : Type 0} (x y : X) → Some x ≡ Some y → x ≡ y
-some_same x y e = cc
 
 -- so it is of each formula that one cites
 abbrev pub AllCited : (ℕ → Type 0) → Formula → Type 0

@@ -1,24 +1,15 @@
 -- Uses of rows, when one more formula is looked at.
 --
--- written_back                         == what a slice of a whole list leaves behind
 -- push_more, push_last, push_within    == a list with one more number
 -- used_more                            == larger numbers say the same of uses
 -- uses_step                            == the uses of one more formula
 use Rattle.std.proofs.Common.{◌≡◌, ◌+◌, ◌<◌, ◌≤◌, ℕ, zero, suc, List, [], ◌∷◌, ◌++◌, length, Some, slice_get, refl, sym, ◌∙◌, ap, subst, inl, inr, arith, length-append, take}
 use Rattle.std.specs.Prelude.{slice_index}
 use Rattle.std.proofs.lemmas.Bool.{cases_lt}
+use Rattle.std.proofs.lemmas.Option.{same_Some}
 use Rattle.formulas.specs.declared.formula.Formula.{Formula}
 use Rattle.formulas.specs.declared.formula.Formula.TheVariants.{True, Not, And, At}
 use Rattle.evaluation.specs.Uses.{IsUsedAt, AreLastUses}
-
-take_front : {X : Type 0} (xs rest : List X) → take (length xs) (xs ++ rest) ≡ xs
-take_front [] rest = refl
-take_front (x ∷ xs) rest = ap (λ l. x ∷ l) (take_front xs rest)
-
--- what a slice of a whole list leaves behind, when it was written
-pub written_back :
-    {X : Type 0} (xs rest : List X) (n : ℕ) → n ≡ length xs → take n (xs ++ rest) ≡ xs
-written_back xs rest n e = ap (λ m. take m (xs ++ rest)) e ∙ take_front xs rest
 
 pub push_more : (xs : List ℕ) (v i : ℕ) → slice_index xs i ≤ slice_index (xs ++ v ∷ []) i
 push_more [] v i = omega arith
@@ -45,9 +36,6 @@ used_more xs ys k True h u = tt
 used_more xs ys k (Not i) h u = omega (arith, h i)
 used_more xs ys k (And i j) h u = (omega (arith, h i, u.0), omega (arith, h j, u.1))
 used_more xs ys k (At node value i j) h u = (omega (arith, h i, u.0), omega (arith, h j, u.1))
-
-some_same : {X : Type 0} (x y : X) → Some x ≡ Some y → x ≡ y
-some_same x y e = cc
 
 -- the uses of one more formula
 pub uses_step :
@@ -87,7 +75,7 @@ uses_step dag k old mid f uses at len used more = record {
       | inr not_less ↦ (
           let same : k ≡ n = omega (arith, not_less, h) in
           let is : f ≡ g =
-          some_same f g (sym at ∙ (λ i. slice_get dag (same i)) ∙ e) in
+          same_Some f g (sym at ∙ (λ i. slice_get dag (same i)) ∙ e) in
           subst (λ m. IsUsedAt new m g) same (subst (IsUsedAt new k) is
           (used_more mid new k f (push_more mid (k + 1)) used)))
     ]

@@ -2,6 +2,7 @@
 use Rattle.std.proofs.Common.{◌≡◌, ℕ, ◌+◌, List, [], ◌∷◌, ◌++◌, length, Bool, true, false, refl, sym, ap, ◌∙◌, subst, arith, inl, inr}
 use Rattle.std.specs.Prelude.{◌&&◌, ◌==◌, if◌then◌else◌, map}
 use Rattle.std.specs.List.{list_all}
+use Rattle.std.proofs.lemmas.Bool.{and_parts, and_from}
 use Rattle.file_cut.specs.Bytes.{is_blank, is_word_byte, inj_word, IsName}
 use Rattle.file_cut.specs.declared.mark.Mark.{Mark}
 use Rattle.file_cut.specs.declared.mark.Mark.TheVariants.{Word, Inj, Open, Close, OpenBrace, CloseBrace, Comma, Colon, Stray}
@@ -13,13 +14,6 @@ true_false e = cc
 
 apart : (b : ℕ) → is_word_byte b ≡ true → is_blank b ≡ true → ⊥
 apart b word blank = true_false (sym blank ∙ blank_ends b word)
-
-both : (a b : Bool) → (a && b) ≡ true → (a ≡ true) × (b ≡ true)
-both true b e = (refl, e)
-both false b e = cc
-
-true_and : (a b : Bool) → a ≡ true → b ≡ true → (a && b) ≡ true
-true_and a b p q = (λ i. p i && b) ∙ q
 
 -- a byte of no word is no word in the grammar
 sign_of-word : (b : ℕ) (head : List ℕ) → sign_of b ≡ Word head → ⊥
@@ -44,7 +38,7 @@ join-cut : (b at : ℕ) (bytes : List ℕ) (pieces : List Piece) → is_word_byt
     → AreTokensOf at (b ∷ bytes) (joined b at pieces)
 join-cut b at [] [] word begins cut = cc
 join-cut b at (c ∷ bytes) [] word begins cut =
-    absurd (apart c begins (both (is_blank c) (list_all is_blank bytes) cut).0)
+    absurd (apart c begins (and_parts (is_blank c) (list_all is_blank bytes) cut).0)
 join-cut b at bytes (p ∷ pieces) word begins
     ([], rest, is, blanks, place, inl ((some, letters), ends), others) =
     let moved : p.at + length p.text ≡ at + length (b ∷ p.text) = omega arith in (
@@ -54,7 +48,7 @@ join-cut b at bytes (p ∷ pieces) word begins
       refl,
       omega arith,
       inl (
-        (omega arith, true_and (is_word_byte b) (list_all is_word_byte p.text) word letters),
+        (omega arith, and_from (is_word_byte b) (list_all is_word_byte p.text) word letters),
         ends,
       ),
       subst (λ n. AreTokensOf n rest pieces) moved others,
@@ -65,17 +59,17 @@ join-cut b at bytes (p ∷ pieces) word begins
     absurd (true_false (sym begins ∙ ap begins_with_word front ∙ letter))
 join-cut b at bytes (p ∷ pieces) word begins (g ∷ gap, rest, is, blanks, place, token, others) =
     absurd (apart g (sym (ap begins_with_word is) ∙ begins)
-    (both (is_blank g) (list_all is_blank gap) blanks).0)
+    (and_parts (is_blank g) (list_all is_blank gap) blanks).0)
 
 -- a blank joins the blanks behind it
 blank-cut : (b at : ℕ) (bytes : List ℕ) (pieces : List Piece) → is_blank b ≡ true
     → AreTokensOf (at + 1) bytes pieces → AreTokensOf at (b ∷ bytes) pieces
-blank-cut b at bytes [] blank cut = true_and (is_blank b) (list_all is_blank bytes) blank cut
+blank-cut b at bytes [] blank cut = and_from (is_blank b) (list_all is_blank bytes) blank cut
 blank-cut b at bytes (p ∷ pieces) blank (gap, rest, is, blanks, place, token, others) = (
   b ∷ gap,
   rest,
   ap (λ l. b ∷ l) is,
-  true_and (is_blank b)
+  and_from (is_blank b)
       (list_all is_blank gap) blank blanks,
   omega arith,
   token,
@@ -96,7 +90,7 @@ put-cut false true true b at bytes pieces is letter next cut =
     join-cut b at bytes pieces letter next cut
 put-cut false true false b at bytes pieces is letter next cut =
     single-cut b at bytes pieces (inl
-    ((omega arith, true_and (is_word_byte b) true letter refl), next)) cut
+    ((omega arith, and_from (is_word_byte b) true letter refl), next)) cut
 put-cut false false begins b at bytes pieces is letter next cut =
     single-cut b at bytes pieces (inr (b, refl, letter, is)) cut
 

@@ -3,14 +3,11 @@ use Rattle.std.proofs.Common.{◌≡◌, ℕ, List, [], ◌∷◌, length, Some,
 use Rattle.std.specs.Prelude.{◌==◌, ◌||◌, not, slice_index}
 use Rattle.std.specs.List.{prefix_len}
 use Rattle.std.proofs.lemmas.List.Sums.{prefix_len_is}
+use Rattle.std.proofs.lemmas.Bool.{not-true}
 use Rattle.memchr.specs.Find.{IsFirstByte, Passes, is_byte}
 use Rattle.bstr.specs.Bytes.{is_in, not_in}
 use Rattle.file_cut.specs.Bytes.{space, tab, is_blank, line_feed}
 use Rattle.file_cut.specs.Lines.{is_no_feed}
-
-not-true : (x : Bool) → not x ≡ true → x ≡ false
-not-true true e = cc
-not-true false e = refl
 
 not-false : (x : Bool) → (not x ≡ true → ⊥) → x ≡ true
 not-false true e = refl

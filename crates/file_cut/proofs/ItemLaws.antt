@@ -1,16 +1,11 @@
 -- Reading items with commas between them is their grammar.
 use Rattle.std.proofs.Common.{◌≡◌, ℕ, zero, suc, ◌<◌, ◌≤◌, List, [], ◌∷◌, ◌++◌, length, Option, Some, None, refl, sym, ap, ◌∙◌, subst, append_assoc, arith, length-append}
 use Rattle.std.specs.Prelude.{option_and_then}
+use Rattle.std.proofs.lemmas.Option.{some_pair_parts}
 use Rattle.file_cut.specs.Trees.{SpellsEach}
 use Rattle.file_cut.specs.Reading.{Reads, Turn, another, end, wrong, with_first, turned, after_item, items_within, items_at}
 use Rattle.file_cut.specs.declared.mark.Mark.{Mark}
 use Rattle.file_cut.specs.declared.mark.Mark.TheVariants.{Comma}
-
--- what was read, and what is left
-pub parts_of : {A B : Type 0} (x y : A) (s r : B)
-    → ◌≡◌ {A = Option (A × B)} (Some (x, s)) (Some (y, r)) → (x ≡ y) × (s ≡ r)
-parts_of {A = A} {B = B} x y s r e = let p : A × B = (x, s) in let q : A × B = (y, r) in
-    let same : p ≡ q = cc in (ap (λ w. w.0) same, ap (λ w. w.1) same)
 
 -- what is read is spelled by the tokens that were passed, one at least
 pub record Found {A : Type 0} (Spelled : List Mark → A → Type 0) (ts : List Mark) (x : A)
@@ -72,7 +67,7 @@ module _ {A : Type 0} (turn : Mark → Turn) (close : Mark) (ends : Ends turn cl
             → with_first x r ≡ Some (xs, rest) → FoundItems Spelled close ts xs rest
         by_rest below x t behind found comma None same e = cc
         by_rest below x t behind found comma (Some (ys, after)) same e =
-            let (here, there) = parts_of (x ∷ ys) xs after rest e in
+            let (here, there) = some_pair_parts (x ∷ ys) xs after rest e in
             subst (λ zs. FoundItems Spelled close ts zs rest) here
             (subst (λ r. FoundItems Spelled close ts (x ∷ ys) r) there
             (more_items ts x t behind ys after found comma (below behind ys after same)))
@@ -86,7 +81,7 @@ module _ {A : Type 0} (turn : Mark → Turn) (close : Mark) (ends : Ends turn cl
             by_rest below x t behind found (ends.is_comma t is)
             (items_within turn item n behind) refl e
         by_turn below x t behind found end is e =
-            let (here, there) = parts_of (x ∷ []) xs behind rest e in
+            let (here, there) = some_pair_parts (x ∷ []) xs behind rest e in
             subst (λ zs. FoundItems Spelled close ts zs rest) here (record {
               inner = found.front;
               split = found.split ∙ (λ i. found.front ++ ends.is_close t is i ∷ there i);

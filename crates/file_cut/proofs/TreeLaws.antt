@@ -1,12 +1,13 @@
 -- Reading trees is their grammar.
 use Rattle.std.proofs.Common.{◌≡◌, ℕ, zero, suc, ◌-◌, ◌<◌, ◌≤◌, List, [], ◌∷◌, ◌++◌, length, Option, Some, None, Bool, true, false, refl, sym, ap, ◌∙◌, subst, append_assoc, append-nil, arith, length-append, inl, inr, ◌⊎◌}
 use Rattle.std.specs.Prelude.{option_and_then, if◌then◌else◌}
+use Rattle.std.proofs.lemmas.Option.{some_pair_parts}
 use Rattle.file_cut.specs.Bytes.{are_digits}
 use Rattle.file_cut.specs.Trees.{SpellsEach, SpellsEntry, SpellsOpen, SpellsWord, SpellsWithin, entry}
 use Rattle.file_cut.specs.Trees.SpellsEntry.{alone, paired}
 use Rattle.file_cut.specs.Trees.SpellsOpen.{same, tuple, inj, empty, braces}
 use Rattle.file_cut.specs.Reading.{Reads, made_of, another, end, in_parens, in_braces, after_item, items_within, items_at, word_at, grouped, tuple_at, inj_at, behind_first, entry_at, braces_at, opened_at, tree_at}
-use Rattle.file_cut.proofs.ItemLaws.{parts_of, Found, IsSound, IsComplete, Ends, items-sound, items-complete, IsShorter, sound-shorter}
+use Rattle.file_cut.proofs.ItemLaws.{Found, IsSound, IsComplete, Ends, items-sound, items-complete, IsShorter, sound-shorter}
 use Rattle.file_cut.specs.declared.mark.Mark.{Mark}
 use Rattle.file_cut.specs.declared.mark.Mark.TheVariants.{Word, Inj, Open, Close, OpenBrace, CloseBrace, Comma, Colon}
 use Rattle.file_cut.specs.declared.tree.Tree.{Tree}
@@ -43,7 +44,7 @@ braces_end = record { comma = refl; closes = refl; is_comma = comma_only; is_clo
 found_as : {A : Type 0} (Spelled : List Mark → A → Type 0) (ts : List Mark) (x y : A)
     (s r : List Mark) → ◌≡◌ {A = Option (A × List Mark)} (Some (x, s)) (Some (y, r))
     → Found Spelled ts x s → Found Spelled ts y r
-found_as Spelled ts x y s r e found = let (here, there) = parts_of x y s r e in
+found_as Spelled ts x y s r e found = let (here, there) = some_pair_parts x y s r e in
     subst (λ z. Found Spelled ts z r) here (subst (Found Spelled ts x) there found)
 
 -- a word
@@ -66,7 +67,7 @@ none_some p e = cc
 mapped : {A B : Type 0} (f : A → B) (r : Option (A × List Mark)) (y : B) (rest : List Mark)
     → made_of f r ≡ Some (y, rest) → (x : A) × (r ≡ Some (x, rest)) × (f x ≡ y)
 mapped f None y rest e = cc
-mapped f (Some (x, s)) y rest e = let (here, there) = parts_of (f x) y s rest e in
+mapped f (Some (x, s)) y rest e = let (here, there) = some_pair_parts (f x) y s rest e in
     (x, ap (λ r. Some (x, r)) there, here)
 
 module _ (inside : Reads Tree) (Inside : List Mark → Tree → Type 0) where
@@ -341,7 +342,7 @@ tree-complete (suc n) front x rest spelled =
 -- no tokens spell two trees
 pub one_tree : (n : ℕ) (ts : List Mark) (x y : Tree) → SpellsWithin n ts x → SpellsWithin n ts y
     → x ≡ y
-one_tree n ts x y a b = (parts_of x y [] []
+one_tree n ts x y a b = (some_pair_parts x y [] []
     (sym (tree-complete n ts x [] a) ∙ tree-complete n ts y [] b)).0
 
 pub tree-shorter : (n : ℕ) → IsShorter (tree_at n)
@@ -390,7 +391,7 @@ none-spelled n ts e t spelled = none_some (t, []) (sym e ∙ whole n ts t spelle
 pub more-spelled : (n : ℕ) (ts : List Mark) (x : Tree) (m : Mark) (others : List Mark)
     → tree_at n ts ≡ Some (x, m ∷ others) → (t : Tree) → SpellsWithin n ts t → ⊥
 more-spelled n ts x m others e t spelled = let (here, there) =
-    parts_of x t (m ∷ others) [] (sym e ∙ whole n ts t spelled) in cc
+    some_pair_parts x t (m ∷ others) [] (sym e ∙ whole n ts t spelled) in cc
 
 -- no tokens are two lines
 pub one_line : (n : ℕ) (ts : List Mark) (head other : List ℕ) (x y : Tree)

@@ -4,6 +4,7 @@ use Rattle.std.specs.Prelude.{Some, None, Ok, ◌==◌, if◌then◌else◌, sli
 use Rattle.std.specs.Option.{option_map_or}
 use Rattle.std.specs.List.{list_all}
 use Rattle.std.proofs.lemmas.Bool.Decides.{nat_tests}
+use Rattle.std.proofs.lemmas.Option.{none-some, same_Some}
 use Rattle.file_cut.specs.declared.tree.Tree.{Tree}
 use Rattle.file_cut.specs.declared.tree.Entry.{Entry}
 use Rattle.functor_terms.specs.declared.node.Node.{Node}
@@ -32,12 +33,6 @@ pub record IsSmall (g : Fit) (s : Scale) (m : Size) : Type 0 where
 
 none_small : (m : Size) → IsSmall no_fit no_scale m
 none_small m = record { small = λ n u f i e. absurd (err_ok WrongShape f e) }
-
-some_lists : (vs us : List Fitted) → ◌≡◌ {A = Option (List Fitted)} (Some vs) (Some us) → vs ≡ us
-some_lists vs us e = cc
-
-none_list : (us : List Fitted) → ◌≡◌ {A = Option (List Fitted)} None (Some us) → ⊥
-none_list us e = cc
 
 -- lists of what is read by one reading
 module _ (g : Fit) (s : Scale) (m : Size) (all : IsSmall g s m) where
@@ -126,17 +121,17 @@ module _ (g : Fit) (s : Scale) (m : Size) (all : IsSmall g s m) where
   held_sum : (slots : Slots) (vs : List Fitted) → all_held slots ≡ Some vs →
       sum_of m (map s vs) ≡ slot_sum slots
   held_sum [] vs e =
-      sym (ap (λ (l : List Fitted). sum_of m (map s l)) (some_lists [] vs e))
-  held_sum (None ∷ slots) vs e = absurd (none_list vs e)
+      sym (ap (λ (l : List Fitted). sum_of m (map s l)) (same_Some [] vs e))
+  held_sum (None ∷ slots) vs e = absurd (none-some vs e)
   held_sum (Some v ∷ slots) vs e = by (all_held slots) (λ us q. held_sum slots us q) e
     where
       by : (o : Option (List Fitted)) →
           ((us : List Fitted) → o ≡ Some us → sum_of m (map s us) ≡ slot_sum slots) →
           option_map_or (λ us. Some (v ∷ us)) o None ≡ Some vs →
           sum_of m (map s vs) ≡ m (s v) + slot_sum slots
-      by None rest e = absurd (none_list vs e)
+      by None rest e = absurd (none-some vs e)
       by (Some us) rest e =
-          sym (ap (λ (l : List Fitted). sum_of m (map s l)) (some_lists (v ∷ us) vs e))
+          sym (ap (λ (l : List Fitted). sum_of m (map s l)) (same_Some (v ∷ us) vs e))
           ∙ ap (λ k. m (s v) + k) (rest us refl)
 
   none_held : (n : ℕ) → slot_sum (replicate n None) ≡ 0

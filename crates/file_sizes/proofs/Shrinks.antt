@@ -8,7 +8,7 @@ use Rattle.std.specs.Option.{option_map_or}
 use Rattle.std.specs.Cmp.{IsEquivalence, tied_itself}
 use Rattle.std.specs.Cmp.Lexicographic.{pointwise}
 use Rattle.std.specs.List.{list_all, list_any}
-use Rattle.std.proofs.lemmas.Bool.{and_parts, and_from, or_cases, eqb-true}
+use Rattle.std.proofs.lemmas.Bool.{and_parts, and_from, or_cases, eqb-true, or_parts}
 use Rattle.std.proofs.lemmas.Bool.Decides.{Decides-int_eq}
 use Rattle.std.proofs.lemmas.List.Folds.{list_all-map}
 use Rattle.functor_terms.specs.declared.node.Node.{Node}
@@ -27,14 +27,7 @@ use Rattle.typing.proofs.Coarser.{all_where}
 use Rattle.typing.proofs.NormalLaws.{IsCanonical, none_canonical, step_canonical, set_shape, product_shape, power_shape, sum_shape, weight_shape, IsWeighted, bag_weighted, distribution_weighted, integers_weighted, rationals_weighted}
 use Rattle.typing.proofs.WeightSums.{AreApart, AreOwn, own, own_in}
 use Rattle.file_sizes.proofs.Sizes.{Size, no_size, size_at, sum_each, sum_of, size_step, size_within, size}
-
-lt_is : (r : Ordering) → is_lt r ≡ true → r ≡ Less
-lt_is Less h = refl
-lt_is Equal h = cc
-lt_is Greater h = cc
-
-less_equal : (r : Ordering) → r ≡ Less → r ≡ Equal → ⊥
-less_equal r p q = cc
+use Rattle.typing.proofs.Ascending.{lt_is, less_equal, below_all, rest_ascends}
 
 -- normal values that fit are no larger than what is equal to them
 pub record IsLeast (x : Check) (f : Form) (e : Test) (s : Size) : Type 0 where
@@ -111,13 +104,9 @@ module _ (x : Check) (f : Form) (e : Test) (s : Size) (g : IsLeast x f e s) wher
   all_kept u [] vs differ h = refl
   all_kept u (w ∷ ws) vs differ h =
       let p = and_parts (has e vs w) (list_all (has e vs) ws) h in
-      let q = or_false (e w u) (list_any (λ w. e w u) ws) differ in
+      let q = or_parts (e w u) (list_any (λ w. e w u) ws) differ in
       and_from (has e (others e u vs) w) (list_all (has e (others e u vs)) ws)
       (kept u w vs q.0 p.0) (all_kept u ws vs q.1 p.1)
-    where
-      or_false : (a b : Bool) → (a || b) ≡ false → (a ≡ false) × (b ≡ false)
-      or_false true b h = absurd (true≢false h)
-      or_false false b h = (refl, h)
 
   -- no value is equal to a later one
   abbrev AreDistinct : List Value → Type 0
@@ -136,22 +125,6 @@ module _ (x : Check) (f : Form) (e : Test) (s : Size) (g : IsLeast x f e s) wher
       let here = found u vs a.0 b.0 c.0 in
       let rest = distinct_shrink us (others e u vs) a.1 b.1 d.1 (all_kept u us vs d.0 c.1) in
       omega (arith, here, rest)
-
-  -- the first of an ascending list stands below the others
-  below_all : (u : Value) (us : List Value) → ascends f.compare (u ∷ us) ≡ true →
-      list_all (λ w. is_lt (f.compare u w)) us ≡ true
-  below_all u [] h = refl
-  below_all u (v ∷ vs) h =
-      let p = and_parts (is_lt (f.compare u v)) (ascends f.compare (v ∷ vs)) h in
-      and_from (is_lt (f.compare u v)) (list_all (λ w. is_lt (f.compare u w)) vs) p.0
-      (all_where (λ w. is_lt (f.compare v w)) (λ w. is_lt (f.compare u w)) vs (below_all v vs p.1)
-      (λ w k. ap is_lt (g.canonical.ordered.total.trans u v w (lt_is (f.compare u v) p.0)
-      (lt_is (f.compare v w) k))))
-
-  rest_ascends : (u : Value) (us : List Value) → ascends f.compare (u ∷ us) ≡ true →
-      ascends f.compare us ≡ true
-  rest_ascends u [] h = refl
-  rest_ascends u (v ∷ vs) h = (and_parts (is_lt (f.compare u v)) (ascends f.compare (v ∷ vs)) h).1
 
   not_above : (a w : Value) → x a ≡ true → f.is_normal a ≡ true → x w ≡ true →
       f.is_normal w ≡ true → is_lt (f.compare a w) ≡ true → e w a ≡ false
@@ -181,8 +154,8 @@ module _ (x : Check) (f : Form) (e : Test) (s : Size) (g : IsLeast x f e s) wher
   distinct (u ∷ us) hx hn h =
       let p = and_parts (x u) (list_all x us) hx in
       let q = and_parts (f.is_normal u) (list_all f.is_normal us) hn in (
-        none_equal u us p.0 q.0 p.1 q.1 (below_all u us h),
-        distinct us p.1 q.1 (rest_ascends u us h),
+        none_equal u us p.0 q.0 p.1 q.1 (below_all f.compare g.canonical.ordered.total u us h),
+        distinct us p.1 q.1 (rest_ascends f.compare g.canonical.ordered.total u us h),
       )
 
   -- a set, whose elements are in a list

@@ -12,6 +12,7 @@ use Rattle.typing.specs.declared.value.Value.{Value}
 use Rattle.typing.specs.Values.{index, inner, parts}
 use Rattle.typing.specs.Layers.{Place, at_child, weighed, child_places, children_of, leaves_of, layers_in, is_state, is_state_at, over_within, added, roots_of, structures_in, sorted_in, edges_in, AreFew}
 use Rattle.structures.proofs.Leaves.{leaves-children}
+use Rattle.structures.proofs.Sound.{true_state}
 
 -- how many values stand in a value
 abbrev pub Size : Type 0
@@ -72,19 +73,6 @@ size-level a t n p v = by (slice_get t p)
         (map (size_within a t n) (option_map_or (λ b. b.children) o [])) v
     by None = refl
     by (Some b) = refl
-
-state_is : (m : Node) → is_state m ≡ true → m ≡ State
-state_is State h = refl
-state_is (Constant labels) h = absurd (true≢false (sym h))
-state_is Naturals h = absurd (true≢false (sym h))
-state_is Product h = absurd (true≢false (sym h))
-state_is Sum h = absurd (true≢false (sym h))
-state_is (Power labels) h = absurd (true≢false (sym h))
-state_is Powerset h = absurd (true≢false (sym h))
-state_is Bag h = absurd (true≢false (sym h))
-state_is Distribution h = absurd (true≢false (sym h))
-state_is Integers h = absurd (true≢false (sym h))
-state_is Rationals h = absurd (true≢false (sym h))
 
 -- S has the size at each node
 module _ (S : ℕ → Size) where
@@ -193,7 +181,7 @@ state_size a t zero x h = refl
 state_size a t (suc n) x h =
     size-level a t n x.0 x.1
     ∙ ap (λ m. size_step a m (map (size_within a t n) (children_at t x.0)) x.1)
-    (state_is (node_at t x.0) h)
+    (true_state (node_at t x.0) h)
 
 -- the places below a structure are its children
 module _
@@ -208,7 +196,7 @@ module _
   -- a structure at a State node has itself alone
   alone : (x : Place) → is_state_at t x ≡ true → below_of x ≡ x ∷ []
   alone x h =
-      are x ∙ ap (λ m. child_places m (children_at t x.0) x.0 x.1) (state_is (node_at t x.0) h)
+      are x ∙ ap (λ m. child_places m (children_at t x.0) x.0 x.1) (true_state (node_at t x.0) h)
 
   no_layer : (x : Place) → is_state_at t x ≡ true → layers_in t (below_of x) ≡ []
   no_layer x h = ap (layers_in t) (alone x h) ∙ ap (λ b. cond (not b) (x ∷ []) []) h

@@ -1,5 +1,6 @@
 -- The trees that stand in a tree have texts that do not overlap.
 use Rattle.std.proofs.Common.{◌≡◌, ℕ, zero, suc, ◌+◌, ◌≤◌, List, [], ◌∷◌, ◌++◌, length, Some, None, sym, ap, ◌∙◌, subst, arith, length-append, ⊎_elim}
+use Rattle.std.proofs.lemmas.Option.{none-some, same_Some}
 use Rattle.file_cut.specs.Trees.{SpellsEach, SpellsEntry, SpellsOpen, SpellsWord, SpellsWithin, alone, paired, same, tuple, inj, empty, braces}
 use Rattle.file_cut.specs.declared.mark.Mark.{Mark}
 use Rattle.file_cut.specs.declared.mark.Mark.TheVariants.{Open, Close, OpenBrace, CloseBrace, Comma, Colon}
@@ -7,12 +8,6 @@ use Rattle.file_cut.specs.declared.tree.Tree.{Tree, out-Tree}
 use Rattle.file_cut.specs.declared.tree.Tree.TheViews as shown
 use Rattle.file_cut.specs.declared.tree.Entry.{Entry, out-Entry, out-roll-Entry}
 use Rattle.fitting.specs.Levels.{parts, parts_in, branch, branch_in, entries, entries_in, held, weight_tree}
-
-none_some : {X : Type 0} (x : X) → None ≡ Some x → ⊥
-none_some x e = cc
-
-some_same : {X : Type 0} (x y : X) → Some x ≡ Some y → x ≡ y
-some_same x y e = cc
 
 -- the tree is spelled by at most n tokens
 pub record IsInside (n : ℕ) (u : Tree) : Type 0 where
@@ -67,7 +62,7 @@ entry_inside : (k : ℕ) (ts : List Mark) (e : Entry) → SpellsEntry (SpellsWit
 entry_inside k ts e (alone first s is) =
     let out = ap out-Entry is ∙ out-roll-Entry _ in record {
       first = subst (IsInside (length ts)) (sym (ap (λ r. r.first) out)) (inside k ts first s);
-      second = λ w h. absurd (none_some w (sym (ap (λ r. r.second) out) ∙ h));
+      second = λ w h. absurd (none-some w (sym (ap (λ r. r.second) out) ∙ h));
     }
 entry_inside k ts e (paired front back first second split s t is) =
     let out = ap out-Entry is ∙ out-roll-Entry _ in
@@ -79,7 +74,7 @@ entry_inside k ts e (paired front back first second split s t is) =
           (more_inside (length front) (length ts) first (omega (arith, sum))
           (inside k front first s));
       second = λ w h.
-          subst (IsInside (length ts)) (some_same second w (sym (ap (λ r. r.second) out) ∙ h))
+          subst (IsInside (length ts)) (same_Some second w (sym (ap (λ r. r.second) out) ∙ h))
           (more_inside (length back) (length ts) second (omega (arith, sum))
           (inside k back second t));
     }
@@ -121,9 +116,9 @@ word_opened ts u (word, spelled, is) =
     let out = ap out-Tree is ∙ shown.outs-Word word in
     let one : length ts ≡ 1 = ap length spelled in record {
       some = omega (arith, one);
-      of_parts = λ us h. absurd (none_some us (sym (ap parts_in out) ∙ h));
-      of_branch = λ b h. absurd (none_some b (sym (ap branch_in out) ∙ h));
-      of_entries = λ es h. absurd (none_some es (sym (ap entries_in out) ∙ h));
+      of_parts = λ us h. absurd (none-some us (sym (ap parts_in out) ∙ h));
+      of_branch = λ b h. absurd (none-some b (sym (ap branch_in out) ∙ h));
+      of_entries = λ es h. absurd (none-some es (sym (ap entries_in out) ∙ h));
     }
 
 opened : (k : ℕ) (ts : List Mark) (u : Tree) → SpellsWithin k ts u → IsOpened (length ts) u
@@ -143,46 +138,46 @@ opened (suc k) ts u s = ⊎_elim (word_opened ts u) (by (opened k)) s
           some = omega (arith, sum);
           of_parts = λ vs h.
               subst (λ (ws : List Tree). (k : ℕ) × (1 + k ≤ length ts) × HaveShares IsInside k ws)
-              (some_same us vs (sym (ap parts_in out) ∙ h)) (
+              (same_Some us vs (sym (ap parts_in out) ∙ h)) (
                 length inner,
                 omega (arith, sum),
                 each_share (SpellsWithin k) IsInside (inside k) inner us each,
               );
-          of_branch = λ b h. absurd (none_some b (sym (ap branch_in out) ∙ h));
-          of_entries = λ es h. absurd (none_some es (sym (ap entries_in out) ∙ h));
+          of_branch = λ b h. absurd (none-some b (sym (ap branch_in out) ∙ h));
+          of_entries = λ es h. absurd (none-some es (sym (ap entries_in out) ∙ h));
         }
     by again (inj index inner v e digits s is) =
         let out = ap out-Tree is ∙ shown.outs-Inj index v in
         let all : length ts ≡ suc (suc (length inner)) = ap length e in record {
           some = omega (arith, all);
-          of_parts = λ us h. absurd (none_some us (sym (ap parts_in out) ∙ h));
+          of_parts = λ us h. absurd (none-some us (sym (ap parts_in out) ∙ h));
           of_branch = λ b h.
               subst (λ (c : List ℕ × Tree). (k : ℕ) × (1 + k ≤ length ts) × IsInside k c.1)
-              (some_same (index, v) b (sym (ap branch_in out) ∙ h))
+              (same_Some (index, v) b (sym (ap branch_in out) ∙ h))
               (length inner, omega (arith, all), inside k inner v s);
-          of_entries = λ es h. absurd (none_some es (sym (ap entries_in out) ∙ h));
+          of_entries = λ es h. absurd (none-some es (sym (ap entries_in out) ∙ h));
         }
     by again (empty e is) =
         let out = ap out-Tree is ∙ shown.outs-Braces [] in
         let all : length ts ≡ 2 = ap length e in record {
           some = omega (arith, all);
-          of_parts = λ us h. absurd (none_some us (sym (ap parts_in out) ∙ h));
-          of_branch = λ b h. absurd (none_some b (sym (ap branch_in out) ∙ h));
+          of_parts = λ us h. absurd (none-some us (sym (ap parts_in out) ∙ h));
+          of_branch = λ b h. absurd (none-some b (sym (ap branch_in out) ∙ h));
           of_entries = λ es h.
               subst
               (λ (fs : List Entry). (k : ℕ) × (1 + k ≤ length ts) × HaveShares IsEntryInside k fs)
-              (some_same [] es (sym (ap entries_in out) ∙ h)) (0, omega (arith, all), tt);
+              (same_Some [] es (sym (ap entries_in out) ∙ h)) (0, omega (arith, all), tt);
         }
     by again (braces inner es e each is) =
         let sum = bracket_sum OpenBrace CloseBrace inner ts e in
         let out = ap out-Tree is ∙ shown.outs-Braces es in record {
           some = omega (arith, sum);
-          of_parts = λ us h. absurd (none_some us (sym (ap parts_in out) ∙ h));
-          of_branch = λ b h. absurd (none_some b (sym (ap branch_in out) ∙ h));
+          of_parts = λ us h. absurd (none-some us (sym (ap parts_in out) ∙ h));
+          of_branch = λ b h. absurd (none-some b (sym (ap branch_in out) ∙ h));
           of_entries = λ fs h.
               subst
               (λ (gs : List Entry). (k : ℕ) × (1 + k ≤ length ts) × HaveShares IsEntryInside k gs)
-              (some_same es fs (sym (ap entries_in out) ∙ h)) (
+              (same_Some es fs (sym (ap entries_in out) ∙ h)) (
                 length inner,
                 omega (arith, sum),
                 each_share (SpellsEntry (SpellsWithin k)) IsEntryInside (entry_inside k) inner es

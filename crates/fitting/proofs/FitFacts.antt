@@ -3,6 +3,7 @@ use Rattle.std.proofs.Common.{◌≡◌, ℕ, zero, suc, ◌-◌, ◌<◌, Bool,
 use Rattle.std.specs.Prelude.{◌==◌, if◌then◌else◌, nat_le, pos, Result, Ok, Err, unsigned_abs}
 use Rattle.std.proofs.lemmas.Bool.{leb-true}
 use Rattle.std.proofs.lemmas.Bool.Decides.{nat_tests}
+use Rattle.std.proofs.lemmas.Option.{none-some, same_Some}
 use Rattle.file_cut.specs.declared.tree.Tree.{Tree}
 use Rattle.functor_terms.specs.declared.node.Node.{Node}
 use Rattle.functor_terms.specs.Terms.{Nodes, IsTerm, node_at, children_at}
@@ -18,6 +19,7 @@ use Rattle.fitting.specs.declared.fitted.Fitted.TheVariants as fitted
 use Rattle.typing.specs.declared.kind.TypeKind.TheVariants.{WrongShape, NotALabel}
 use Rattle.fitting.specs.Levels.{word}
 use Rattle.fitting.specs.Fitting.{needs, demands, number_fit, Fit, no_fit, fit_at, fit_step, fitting, Gives, number_limit}
+use Rattle.typing.proofs.TermFacts.{not_zero}
 
 -- a node finds what its step finds
 pub fit-at : (t : Nodes) → IsTerm t → (names : List (List ℕ)) (p : ℕ) → p < length t → (m : Node)
@@ -28,15 +30,6 @@ fit-at t is names p h m e u r given =
     subst (Gives r) (ap (λ n. fit_step names n (map (fitting t names) (children_at t p)) u) e
     ∙ sym (ap (λ (f : Fit). f u) (fold-at no_fit (fit_step names) t is p h))) given
 
-none_some : {X : Type 0} (x : X) → None ≡ Some x → ⊥
-none_some x e = cc
-
-some_same : {X : Type 0} (x y : X) → Some x ≡ Some y → x ≡ y
-some_same x y e = cc
-
-not_zero : (k : ℕ) → (suc k == 0) ≡ false
-not_zero k = grind (arith, nat_tests)
-
 fit_at-suc : (f : Fit) (fs : List Fit) (k : ℕ) → fit_at (f ∷ fs) (suc k) ≡ fit_at fs k
 fit_at-suc f fs k = ap (λ b. if b then f else fit_at fs (suc k - 1)) (not_zero k)
     ∙ ap (fit_at fs) (let e : suc k - 1 ≡ k = omega arith in e)
@@ -44,13 +37,13 @@ fit_at-suc f fs k = ap (λ b. if b then f else fit_at fs (suc k - 1)) (not_zero 
 module _ (g : ℕ → Fit) where
   -- what the k-th of some nodes finds
   pub fit_found : (qs : List ℕ) (k q : ℕ) → slice_get qs k ≡ Some q → fit_at (map g qs) k ≡ g q
-  fit_found [] k q e = absurd (none_some q e)
-  fit_found (r ∷ qs) zero q e = ap g (some_same r q e)
+  fit_found [] k q e = absurd (none-some q e)
+  fit_found (r ∷ qs) zero q e = ap g (same_Some r q e)
   fit_found (r ∷ qs) (suc k) q e = fit_at-suc (g r) (map g qs) k ∙ fit_found qs k q e
 
   pub fit_none : (qs : List ℕ) (k : ℕ) → slice_get qs k ≡ None → fit_at (map g qs) k ≡ no_fit
   fit_none [] k e = refl
-  fit_none (r ∷ qs) zero e = absurd (none_some r (sym e))
+  fit_none (r ∷ qs) zero e = absurd (none-some r (sym e))
   fit_none (r ∷ qs) (suc k) e = fit_at-suc (g r) (map g qs) k ∙ fit_none qs k e
 
 -- what is read of digits alone

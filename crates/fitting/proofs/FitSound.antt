@@ -4,10 +4,11 @@ use Rattle.std.specs.Prelude.{Some, None, Ok, ◌==◌, if◌then◌else◌, nat
 use Rattle.std.specs.List.{AllByRecursion, list_all, list_any}
 use Rattle.std.specs.Char.{is_ascii_digit}
 use Rattle.std.specs.Str.Parse.{digits_value}
-use Rattle.std.proofs.lemmas.Bool.{and_parts, and_from, lt-ltb, ltb-true, eqb-true}
+use Rattle.std.proofs.lemmas.Bool.{and_parts, and_from, lt-ltb, ltb-true, eqb-true, or_parts, eq-eqb}
 use Rattle.std.proofs.lemmas.Bool.Decides.{nat_tests}
 use Rattle.std.proofs.lemmas.List.{length-map, length-replicate}
 use Rattle.std.proofs.lemmas.List.Quantifiers.{position-Some}
+use Rattle.std.proofs.lemmas.Option.{same_Some, none-some}
 use Rattle.file_cut.specs.declared.tree.Tree.{Tree}
 use Rattle.file_cut.specs.declared.tree.Entry.{Entry}
 use Rattle.functor_terms.specs.declared.node.Node.{Node}
@@ -34,25 +35,14 @@ use Rattle.fitting.specs.Levels.{word, parts, branch, entries, held, weight_tree
 use Rattle.fitting.specs.Fitting.{Fit, needs, demands, found, made, no_fit, fit_at, each, places, state_fit, label_fit, number_fit, number_limit, product_fit, sum_fit, power_fit, power_of, is_keyed, filled, all_held, empty_slots, set_fit, set_of, is_alone, weights_fit, weights_of, has_weight, entry_fit, weight_fit, fit_step, fitting}
 use Rattle.fitting.specs.Scaling.{over_step, over_bound, is_over, Scale, no_scale, scale_at, scaled_places, scaled_level, scaled_step, scaled, scaled_weight}
 use Rattle.fitting.proofs.Inversions.{ok_same, err_ok, needs-ok, demands-ok, found-ok, made-ok, each-good, filled-good, held-good, empty-good}
+use Rattle.typing.proofs.TermFacts.{not_zero}
+use Rattle.fitting.proofs.ScaleFacts.{scale_at-suc}
 
 -- one level of `over_bound`
-over_out : (f : Fitted) (x : Fitted-F Fitted) → out-Fitted f ≡ x
+pub over_out : (f : Fitted) (x : Fitted-F Fitted) → out-Fitted f ≡ x
     → over_bound f ≡ over_step (map-Fitted Fitted Bool over_bound x)
 over_out f x e = fold_out-Fitted Bool over_step f
     ∙ ap (λ (y : Fitted-F Fitted). over_step (map-Fitted Fitted Bool over_bound y)) e
-
-or_false : (x y : Bool) → (x || y) ≡ false → (x ≡ false) × (y ≡ false)
-or_false true y h = absurd (true≢false h)
-or_false false y h = (refl, h)
-
-not_zero : (k : ℕ) → (suc k == 0) ≡ false
-not_zero k = grind (arith, nat_tests)
-
-some_same : {X : Type 0} (x y : X) → Some x ≡ Some y → x ≡ y
-some_same x y e = cc
-
-none_some : {X : Type 0} (x : X) → None ≡ Some x → ⊥
-none_some x e = cc
 
 -- l is the denominator, n the number of names
 module _ (l n : ℕ) where
@@ -99,7 +89,7 @@ module _ (l n : ℕ) where
         × (list_all (λ b. b) (map (states_below n) (map s fs)) ≡ true)
     list_good [] all over = (refl, refl)
     list_good (f ∷ fs) all over =
-        let p = or_false (over_bound f) (list_any (λ b. b) (map over_bound fs)) over in
+        let p = or_parts (over_bound f) (list_any (λ b. b) (map over_bound fs)) over in
         let here = all.0 p.0 in
         let rest = list_good fs all.1 p.1 in (
           and_from (x (s f)) (list_all x (map s fs)) here.0 rest.0,
@@ -123,9 +113,9 @@ module _ (l n : ℕ) where
         × (list_all (λ e. e.0) (tested (weighed m es)) ≡ true)
     entries_good m [] all over = (refl, refl)
     entries_good m (e ∷ es) all over =
-        let p = or_false (over_bound e.0 || is_over e.1)
+        let p = or_parts (over_bound e.0 || is_over e.1)
         (list_any (λ e. e.0 || is_over e.1) (overs es)) over in
-        let q = or_false (over_bound e.0) (is_over e.1) p.0 in
+        let q = or_parts (over_bound e.0) (is_over e.1) p.0 in
         let here = all.0 q.0 in
         let rest = entries_good m es all.1 p.1 in (
           and_from (x (s e.0)) (list_all (λ e. x e.0) (weighed m es)) here.0 rest.0,
@@ -153,8 +143,8 @@ module _ (l n : ℕ) where
       )
 
   below_some : (b : Bool) (k j : ℕ) → (if b then Some k else None) ≡ Some j → (b ≡ true) × (k ≡ j)
-  below_some true k j e = (refl, some_same k j e)
-  below_some false k j e = absurd (none_some j e)
+  below_some true k j e = (refl, same_Some k j e)
+  below_some false k j e = absurd (none-some j e)
 
   -- the number below n of a word is below n
   number-below : (m : ℕ) (w : List ℕ) (k : ℕ) → number_below m w ≡ Some k → k < m
@@ -235,10 +225,6 @@ module _ (l n : ℕ) where
       ∙ places-suc g gs (k + 1) us in
       λ i. found (fit_at-suc g gs k i u) (λ v. made (λ vs. v ∷ vs) (next i))
 
-  scale_at-suc : (s : Scale) (ss : List Scale) (k : ℕ) → scale_at (s ∷ ss) (suc k) ≡ scale_at ss k
-  scale_at-suc s ss k = ap (λ b. if b then s else scale_at ss (suc k - 1)) (not_zero k)
-      ∙ ap (scale_at ss) (let e : suc k - 1 ≡ k = omega arith in e)
-
   pub scaled-suc : (s : Scale) (ss : List Scale) (k : ℕ) (fs : List Fitted)
       → scaled_places (s ∷ ss) (suc k) fs ≡ scaled_places ss k fs
   scaled-suc s ss k [] = refl
@@ -266,7 +252,7 @@ module _ (l n : ℕ) where
   places_sound (g ∷ gs) (x ∷ xs) (s ∷ ss) z (u ∷ us) fs same e over =
       let (f, e1, f1) = found-ok (g u) (λ v. made (λ vs. v ∷ vs) (places (g ∷ gs) 1 us)) fs e in
       let (hs, e2, is) = made-ok (λ (vs : List Fitted). f ∷ vs) (places (g ∷ gs) 1 us) fs f1 in
-      let p = or_false (over_bound f) (list_any (λ b. b) (map over_bound hs))
+      let p = or_parts (over_bound f) (list_any (λ b. b) (map over_bound hs))
       (ap (λ (vs : List Fitted). list_any (λ b. b) (map over_bound vs)) is ∙ over) in
       let here = z.0.sound u f e1 p.0 in
       let after = places_sound gs xs ss z.1 us hs (omega arith)
@@ -362,13 +348,10 @@ module _ (l n : ℕ) where
         subst (λ (v : Value). Holds (fits_step (Power labels) xs) v) (sym is) (
           ap (fits_level (Power labels) xs) (outs-Tuple vs)
               ∙ and_from (length vs == label_count labels) (list_all (check_at xs 0) vs)
-              (count_same (length vs) (label_count labels) many) w.0,
+              (eq-eqb (length vs) (label_count labels) many) w.0,
           at_level (fits_step (Power labels) xs) (value.Tuple vs) (Value-F.Tuple vs)
               (outs-Tuple vs) w.1,
         )
-      where
-        count_same : (a b : ℕ) → a ≡ b → (a == b) ≡ true
-        count_same a b h = grind (arith, nat_tests)
 
     set_sound : (u : Tree) (f : Fitted) → set_fit gs u ≡ Ok f
         → IsGood (fits_step Powerset xs) (scaled_step l Powerset ss) f

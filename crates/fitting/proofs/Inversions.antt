@@ -4,6 +4,7 @@ use Rattle.std.specs.Prelude.{Option, Some, None, Ok, Err, slice_set, replicate,
 use Rattle.std.specs.Option.{option_map_or}
 use Rattle.std.specs.List.{AllByRecursion}
 use Rattle.std.proofs.Math.ListN.{length-set}
+use Rattle.std.proofs.lemmas.Option.{none-some, same_Some}
 use Rattle.file_cut.specs.declared.tree.Entry.{Entry}
 use Rattle.functor_terms.specs.declared.node.LabelSet.{LabelSet}
 use Rattle.functor_terms.specs.Terms.{label_number}
@@ -91,22 +92,16 @@ filled-good labels g P h (entry ∷ es) slots out all e =
     (set-good (SlotHolds P) slots k (Some v) all (h u v e5)) f5 in
     (rest.0, rest.1 ∙ length-set slots k (Some v))
 
-some_lists : (vs us : List Fitted) → ◌≡◌ {A = Option (List Fitted)} (Some vs) (Some us) → vs ≡ us
-some_lists vs us e = cc
-
-none_list : (us : List Fitted) → ◌≡◌ {A = Option (List Fitted)} None (Some us) → ⊥
-none_list us e = cc
-
 -- what all slots hold
 pub held-good : (P : Fitted → Type 0) (slots : Slots) (vs : List Fitted)
     → AllByRecursion (SlotHolds P) slots → all_held slots ≡ Some vs
     → AllByRecursion P vs × (length vs ≡ length slots)
 held-good P [] vs all e = let same =
-    some_lists [] vs e in (
+    same_Some [] vs e in (
       subst (λ (l : List Fitted). AllByRecursion P l) same tt,
       ap length (sym same),
     )
-held-good P (None ∷ slots) vs all e = absurd (none_list vs e)
+held-good P (None ∷ slots) vs all e = absurd (none-some vs e)
 held-good P (Some v ∷ slots) vs all e =
     by (all_held slots) refl (λ us q. held-good P slots us all.1 q) e
   where
@@ -115,10 +110,10 @@ held-good P (Some v ∷ slots) vs all e =
         → AllByRecursion P us × (length us ≡ length slots))
         → option_map_or (λ us. Some (v ∷ us)) o None ≡ Some vs
         → AllByRecursion P vs × (length vs ≡ length (Some v ∷ slots))
-    by None q rest e = absurd (none_list vs e)
+    by None q rest e = absurd (none-some vs e)
     by (Some us) q rest e =
         let w = rest us q in
-        let same = some_lists (v ∷ us) vs e in (
+        let same = same_Some (v ∷ us) vs e in (
           subst (λ (l : List Fitted). AllByRecursion P l) same (all.0, w.0),
           ap length (sym same)
               ∙ ap suc w.1,

@@ -251,7 +251,7 @@ module _ where
 
 -- ---- turns of the loops that join
 
-denominators_out :
+pub denominators_out :
     (f : Fitted) (x : Fitted-F Fitted) → out-Fitted f ≡ x
     → denominators f ≡ denominators_step (map-Fitted Fitted (List ℕ) denominators x)
 denominators_out f x e =

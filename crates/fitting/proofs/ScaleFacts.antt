@@ -2,6 +2,7 @@
 use Rattle.std.proofs.Common.{◌≡◌, ℕ, zero, suc, ◌-◌, ◌<◌, false, List, [], ◌∷◌, length, map, Some, None, slice_get, refl, sym, ap, ◌∙◌, arith}
 use Rattle.std.specs.Prelude.{◌==◌, if◌then◌else◌, ℤ}
 use Rattle.std.proofs.lemmas.Bool.Decides.{nat_tests}
+use Rattle.std.proofs.lemmas.Option.{none-some, same_Some}
 use Rattle.functor_terms.specs.declared.node.Node.{Node}
 use Rattle.functor_terms.specs.declared.node.Node.TheVariants.{State, Constant, Naturals, Product, Sum, Power, Powerset, Bag, Distribution, Integers, Rationals}
 use Rattle.functor_terms.specs.Terms.{Nodes, IsTerm, node_at, children_at}
@@ -13,30 +14,22 @@ use Rattle.fitting.specs.declared.fitted.Fitted.TheVariants as fitted
 use Rattle.fitting.specs.declared.fitted.Fitted.TheViews.{outs-State, outs-Label, outs-OverBound, outs-Tuple, outs-Inj, outs-Set, outs-Weights}
 use Rattle.fitting.specs.declared.fitted.Weight.{Weight}
 use Rattle.fitting.specs.Scaling.{Scale, no_scale, scale_at, scaled_places, scaled_parts, scaled_entries, scaled_level, scaled_step, scaled}
+use Rattle.typing.proofs.TermFacts.{not_zero}
 
-none_some : {X : Type 0} (x : X) → None ≡ Some x → ⊥
-none_some x e = cc
-
-some_same : {X : Type 0} (x y : X) → Some x ≡ Some y → x ≡ y
-some_same x y e = cc
-
-not_zero : (k : ℕ) → (suc k == 0) ≡ false
-not_zero k = grind (arith, nat_tests)
-
-scale_at-suc : (s : Scale) (ss : List Scale) (k : ℕ) → scale_at (s ∷ ss) (suc k) ≡ scale_at ss k
+pub scale_at-suc : (s : Scale) (ss : List Scale) (k : ℕ) → scale_at (s ∷ ss) (suc k) ≡ scale_at ss k
 scale_at-suc s ss k = ap (λ b. if b then s else scale_at ss (suc k - 1)) (not_zero k)
     ∙ ap (scale_at ss) (let e : suc k - 1 ≡ k = omega arith in e)
 
 module _ (g : ℕ → Scale) where
   -- how those at the k-th of some nodes are scaled
   pub scale_found : (qs : List ℕ) (k q : ℕ) → slice_get qs k ≡ Some q → scale_at (map g qs) k ≡ g q
-  scale_found [] k q e = absurd (none_some q e)
-  scale_found (r ∷ qs) zero q e = ap g (some_same r q e)
+  scale_found [] k q e = absurd (none-some q e)
+  scale_found (r ∷ qs) zero q e = ap g (same_Some r q e)
   scale_found (r ∷ qs) (suc k) q e = scale_at-suc (g r) (map g qs) k ∙ scale_found qs k q e
 
   pub scale_none : (qs : List ℕ) (k : ℕ) → slice_get qs k ≡ None → scale_at (map g qs) k ≡ no_scale
   scale_none [] k e = refl
-  scale_none (r ∷ qs) zero e = absurd (none_some r (sym e))
+  scale_none (r ∷ qs) zero e = absurd (none-some r (sym e))
   scale_none (r ∷ qs) (suc k) e = scale_at-suc (g r) (map g qs) k ∙ scale_none qs k e
 
 other_parts : (m : Node) (ss : List Scale) (fs : List Fitted) → (m ≡ Product → ⊥)

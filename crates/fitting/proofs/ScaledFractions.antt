@@ -7,7 +7,7 @@ use Rattle.fitting.specs.declared.fitted.Weight.TheVariants as weight
 use Rattle.fitting.specs.Scaling.{scaled_weight}
 use Rattle.fitting.specs.Laws.{WeightsKeepFractions}
 
-negative-times : (x c : ℕ) → neg_ℤ (pos x) *ℤ pos c ≡ neg_ℤ (pos (x * c))
+pub negative-times : (x c : ℕ) → neg_ℤ (pos x) *ℤ pos c ≡ neg_ℤ (pos (x * c))
 negative-times zero c =
     let none : 0 * c ≡ 0 = omega arith in
     pos-*ℤ-pos 0 c ∙ ap pos none ∙ sym (ap (λ x. neg_ℤ (pos x)) none)

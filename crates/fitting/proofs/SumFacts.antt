@@ -3,6 +3,7 @@ use Rattle.std.proofs.Common.{◌≡◌, ℕ, zero, suc, ◌-◌, ◌<◌, Bool,
 use Rattle.std.specs.Prelude.{ℤ, pos, ◌==◌, if◌then◌else◌}
 use Rattle.std.specs.Ordering.{int_eq}
 use Rattle.std.proofs.lemmas.Bool.Decides.{nat_tests}
+use Rattle.std.proofs.lemmas.Option.{none-some, same_Some}
 use Rattle.functor_terms.specs.declared.node.Node.{Node}
 use Rattle.functor_terms.specs.declared.node.Node.TheVariants.{Distribution}
 use Rattle.functor_terms.specs.Terms.{Nodes, IsTerm, node_at, children_at}
@@ -11,32 +12,19 @@ use Rattle.typing.specs.declared.value.Value.{Value}
 use Rattle.typing.specs.Values.{entries}
 use Rattle.typing.specs.Bounds.{are_any, joint_weight, entries_hold, sums_step, any_weights, sums_hold}
 use Rattle.typing.specs.Fits.{Check, no_check, check_at}
-
-none_some : {X : Type 0} (x : X) → None ≡ Some x → ⊥
-none_some x e = cc
-
-some_same : {X : Type 0} (x y : X) → Some x ≡ Some y → x ≡ y
-some_same x y e = cc
-
-not_zero : (k : ℕ) → (suc k == 0) ≡ false
-not_zero k = grind (arith, nat_tests)
-
-check_at-suc : (f : Check) (fs : List Check) (k : ℕ) → check_at (f ∷ fs) (suc k) ≡ check_at fs k
-check_at-suc f fs k =
-    ap (λ b. if b then f else check_at fs (suc k - 1)) (not_zero k)
-    ∙ ap (check_at fs) (let e : suc k - 1 ≡ k = omega arith in e)
+use Rattle.typing.proofs.TermFacts.{not_zero, check_at-suc}
 
 module _ (g : ℕ → Check) where
   -- what the k-th of some nodes asks
   pub check_found :
       (qs : List ℕ) (k q : ℕ) → slice_get qs k ≡ Some q → check_at (map g qs) k ≡ g q
-  check_found [] k q e = absurd (none_some q e)
-  check_found (r ∷ qs) zero q e = ap g (some_same r q e)
+  check_found [] k q e = absurd (none-some q e)
+  check_found (r ∷ qs) zero q e = ap g (same_Some r q e)
   check_found (r ∷ qs) (suc k) q e = check_at-suc (g r) (map g qs) k ∙ check_found qs k q e
 
   pub check_none : (qs : List ℕ) (k : ℕ) → slice_get qs k ≡ None → check_at (map g qs) k ≡ no_check
   check_none [] k e = refl
-  check_none (r ∷ qs) zero e = absurd (none_some r (sym e))
+  check_none (r ∷ qs) zero e = absurd (none-some r (sym e))
   check_none (r ∷ qs) (suc k) e = check_at-suc (g r) (map g qs) k ∙ check_none qs k e
 
 -- a node asks what its step asks

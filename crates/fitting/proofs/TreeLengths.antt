@@ -3,6 +3,7 @@
 use Rattle.std.proofs.Common.{◌≡◌, ℕ, zero, suc, ◌+◌, ◌≤◌, List, [], ◌∷◌, ◌++◌, length, Some, None, sym, ap, ◌∙◌, subst, arith, length-append, ⊎_elim}
 use Rattle.std.specs.List.{AllByRecursion}
 use Rattle.std.proofs.lemmas.List.{length-map}
+use Rattle.std.proofs.lemmas.Option.{none-some, same_Some}
 use Rattle.file_cut.specs.Tokens.{marks, tokens_from}
 use Rattle.file_cut.proofs.TokenLaws.{tokens_few}
 use Rattle.file_cut.specs.Trees.{SpellsEach, SpellsEntry, SpellsOpen, SpellsWord, SpellsWithin, alone, paired, same, tuple, inj, empty, braces}
@@ -18,12 +19,6 @@ pub marks-few : (line : List ℕ) → length (marks line) ≤ length line
 marks-few line =
     let same : length (marks line) ≡ length (tokens_from 0 line) = rw length-map in
     omega (arith, same, tokens_few 0 line)
-
-none_some : {X : Type 0} (x : X) → None ≡ Some x → ⊥
-none_some x e = cc
-
-some_same : {X : Type 0} (x y : X) → Some x ≡ Some y → x ≡ y
-some_same x y e = cc
 
 -- n bounds the number of tokens
 module _ (n : ℕ) where
@@ -73,7 +68,7 @@ module _ (n : ℕ) where
   entry_inside k ts e few (alone first s is) =
       let out = ap out-Entry is ∙ out-roll-Entry _ in record {
         first = subst IsInside (sym (ap (λ r. r.first) out)) (inside k ts first few s);
-        second = λ w h. absurd (none_some w (sym (ap (λ r. r.second) out) ∙ h));
+        second = λ w h. absurd (none-some w (sym (ap (λ r. r.second) out) ∙ h));
       }
   entry_inside k ts e few (paired front back first second split s t is) =
       let out = ap out-Entry is ∙ out-roll-Entry _ in
@@ -84,7 +79,7 @@ module _ (n : ℕ) where
             subst IsInside (sym (ap (λ r. r.first) out))
             (inside k front first (omega (arith, sum, few)) s);
         second = λ w h.
-            subst IsInside (some_same second w (sym (ap (λ r. r.second) out) ∙ h))
+            subst IsInside (same_Some second w (sym (ap (λ r. r.second) out) ∙ h))
             (inside k back second (omega (arith, sum, few)) t);
       }
 
@@ -107,9 +102,9 @@ module _ (n : ℕ) where
   word_opened : (ts : List Mark) (u : Tree) → SpellsWord ts u → IsOpened u
   word_opened ts u (word, spelled, is) =
       let out = ap out-Tree is ∙ shown.outs-Word word in record {
-        of_parts = λ us h. absurd (none_some us (sym (ap parts_in out) ∙ h));
-        of_branch = λ b h. absurd (none_some b (sym (ap branch_in out) ∙ h));
-        of_entries = λ es h. absurd (none_some es (sym (ap entries_in out) ∙ h));
+        of_parts = λ us h. absurd (none-some us (sym (ap parts_in out) ∙ h));
+        of_branch = λ b h. absurd (none-some b (sym (ap branch_in out) ∙ h));
+        of_entries = λ es h. absurd (none-some es (sym (ap entries_in out) ∙ h));
       }
 
   opened : (k : ℕ) (ts : List Mark) (u : Tree) → length ts ≤ n → SpellsWithin k ts u → IsOpened u
@@ -127,29 +122,29 @@ module _ (n : ℕ) where
           let out = ap out-Tree is ∙ shown.outs-Tuple us in record {
             of_parts = λ vs h.
                 subst (λ (ws : List Tree). AllByRecursion IsInside ws)
-                (some_same us vs (sym (ap parts_in out) ∙ h))
+                (same_Some us vs (sym (ap parts_in out) ∙ h))
                 (each-inside (SpellsWithin k) IsInside (inside k) inner us
                 (omega (arith, sum, few)) each);
-            of_branch = λ b h. absurd (none_some b (sym (ap branch_in out) ∙ h));
-            of_entries = λ es h. absurd (none_some es (sym (ap entries_in out) ∙ h));
+            of_branch = λ b h. absurd (none-some b (sym (ap branch_in out) ∙ h));
+            of_entries = λ es h. absurd (none-some es (sym (ap entries_in out) ∙ h));
           }
       by again (inj index inner v e digits s is) =
           let out = ap out-Tree is ∙ shown.outs-Inj index v in
           let all : length ts ≡ suc (suc (length inner)) = ap length e in record {
-            of_parts = λ us h. absurd (none_some us (sym (ap parts_in out) ∙ h));
+            of_parts = λ us h. absurd (none-some us (sym (ap parts_in out) ∙ h));
             of_branch = λ b h.
                 subst (λ (c : List ℕ × Tree). IsInside c.1)
-                (some_same (index, v) b (sym (ap branch_in out) ∙ h))
+                (same_Some (index, v) b (sym (ap branch_in out) ∙ h))
                 (inside k inner v (omega (arith, all, few)) s);
-            of_entries = λ es h. absurd (none_some es (sym (ap entries_in out) ∙ h));
+            of_entries = λ es h. absurd (none-some es (sym (ap entries_in out) ∙ h));
           }
       by again (empty e is) =
           let out = ap out-Tree is ∙ shown.outs-Braces [] in record {
-            of_parts = λ us h. absurd (none_some us (sym (ap parts_in out) ∙ h));
-            of_branch = λ b h. absurd (none_some b (sym (ap branch_in out) ∙ h));
+            of_parts = λ us h. absurd (none-some us (sym (ap parts_in out) ∙ h));
+            of_branch = λ b h. absurd (none-some b (sym (ap branch_in out) ∙ h));
             of_entries = λ es h.
                 subst (λ (fs : List Entry). AllByRecursion IsEntryInside fs × (length fs ≤ n))
-                (some_same [] es (sym (ap entries_in out) ∙ h)) (tt, omega arith);
+                (same_Some [] es (sym (ap entries_in out) ∙ h)) (tt, omega arith);
           }
       by again (braces inner es e each is) =
           let sum = bracket-few OpenBrace CloseBrace inner ts e in
@@ -157,11 +152,11 @@ module _ (n : ℕ) where
           let count = each-few (SpellsEntry (SpellsWithin k)) IsEntryInside
           (entry_inside k) inner es each in
           record {
-            of_parts = λ us h. absurd (none_some us (sym (ap parts_in out) ∙ h));
-            of_branch = λ b h. absurd (none_some b (sym (ap branch_in out) ∙ h));
+            of_parts = λ us h. absurd (none-some us (sym (ap parts_in out) ∙ h));
+            of_branch = λ b h. absurd (none-some b (sym (ap branch_in out) ∙ h));
             of_entries = λ fs h.
                 subst (λ (gs : List Entry). AllByRecursion IsEntryInside gs × (length gs ≤ n))
-                (some_same es fs (sym (ap entries_in out) ∙ h)) (
+                (same_Some es fs (sym (ap entries_in out) ∙ h)) (
                   each-inside (SpellsEntry (SpellsWithin k)) IsEntryInside (entry_inside k) inner es
                       (omega (arith, sum, few)) each,
                   omega (arith, sum, few, count),

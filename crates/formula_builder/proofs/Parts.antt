@@ -15,6 +15,7 @@ use Rattle.refiner.specs.Recorded.{Round}
 use Rattle.formula_builder.specs.Books.{Book, IsFormula, parts_in, IsToldAs, IsPartTold, IsNoPart, IsRoundTold}
 use Rattle.formula_builder.specs.Making.{IsLonger, ArePartsTold, AreSplitsTold, AreStartsTold, IsSplitTellable, IsTellable}
 use Rattle.std.proofs.lemmas.Option.{slice_get_within}
+use Rattle.std.proofs.lemmas.List.Quantifiers.{Any-push}
 use Rattle.formula_builder.proofs.Lists.{get_or-first, get_or-second}
 
 -- what one element has, all of a list of it have
@@ -36,16 +37,6 @@ any_first : {X : Type 0} (P : X → Type 0) (xs ys : List X) → Any P xs → An
 any_first P xs ys found =
     let (k, x, h, e, is) = found in
     (k, x, omega (arith, length-append xs ys), get_or-first xs ys k x h ∙ e, is)
-
-any_last : {X : Type 0} (P : X → Type 0) (xs : List X) (y : X) → P y → Any P (xs ++ y ∷ [])
-any_last P xs y is = (
-  length xs,
-  y,
-  omega (arith, length-append xs (y ∷ [])),
-  get_or-second xs (y ∷ []) (length xs) 0
-      y (omega arith),
-  is,
-)
 
 only_any : {X : Type 0} (P : X → Type 0) (x : X) → Any P (x ∷ []) → P x
 only_any P x found = by found.0 found.1 found.2 found.3 found.4
@@ -223,7 +214,7 @@ parts_push a b c node parent splitter coarse parts p apart before step = record 
       | inr some ↦ inr (any_first (λ (x : Part). (node ≡ q) × (x.three ≡ v)) parts (p ∷ []) some)
     ]
     | inr new ↦
-        inr (any_last (λ (x : Part). (node ≡ q) × (x.three ≡ v)) parts p
+        inr (Any-push (λ (x : Part). (node ≡ q) × (x.three ≡ v)) parts p
         (only_any (λ (x : Part). (node ≡ q) × (x.three ≡ v)) p new))
   ];
 }
@@ -298,7 +289,7 @@ splits_push a b c r splits s apart parent_apart before step = record {
     ]
     | inr new ↦ (
         let parent = before.others s.parent parent_apart in
-        inr (any_last (λ (x : Split). Any (λ (p : Part). (slice_index a.nodes x.parent ≡ q)
+        inr (Any-push (λ (x : Split). Any (λ (p : Part). (slice_index a.nodes x.parent ≡ q)
         × (p.three ≡ v)) x.parts) splits s
         (subst (λ n. Any (λ (p : Part). (n ≡ q) × (p.three ≡ v)) s.parts) parent.1 new)))
   ];
@@ -355,7 +346,7 @@ start_push before d at value start p same at_is e ordered below as_many apart to
             | inr new ↦ (
                 let node_is : p.node ≡ q = cc new in
                 let value_is : value ≡ v = cc new in
-                any_last (λ (x : Start). (x.node ≡ q) × (x.three ≡ v)) start p (
+                Any-push (λ (x : Start). (x.node ≡ q) × (x.three ≡ v)) start p (
                   node_is,
                   sym same
                       ∙ value_is,

@@ -2,7 +2,7 @@
 use Rattle.std.proofs.Common.{◌≡◌, ◌+◌, ◌*◌, ◌<◌, ◌≤◌, ◌==◌, ℕ, zero, suc, List, [], ◌∷◌, length, get_or, drop, drop-cons, take, refl, sym, ◌∙◌, ap, subst, inl, inr, arith}
 use Rattle.std.specs.Prelude.{◌^◌, All, Contains, slice_index}
 use Rattle.std.proofs.lemmas.Bool.Decides.{eqb_tells}
-use Rattle.std.proofs.lemmas.List.{take_all}
+use Rattle.std.proofs.lemmas.List.{take_all, drop_all}
 use Rattle.modalities.specs.declared.three.Three.{Three}
 use Rattle.sorted_systems.specs.Systems.{Sorted, IsState, class_in, system_from}
 use Rattle.edge_store.specs.declared.edge.Edge.{Edge}
@@ -55,12 +55,6 @@ drop_at : {X : Type 0} (xs : List X) (i : ℕ) (x : X) → i < length xs → x �
 drop_at xs i x below is =
     let next : suc i ≡ i + 1 = omega arith in
     drop-cons xs i x below ∙ ap (λ y. y ∷ drop (suc i) xs) (sym is) ∙ ap (λ n. x ∷ drop n xs) next
-
-drop_past : {X : Type 0} (xs : List X) (i : ℕ) → length xs ≤ i → drop i xs ≡ []
-drop_past [] zero h = refl
-drop_past [] (suc i) h = refl
-drop_past (x ∷ xs) zero h = absurd (omega arith)
-drop_past (x ∷ xs) (suc i) h = drop_past xs i (omega arith)
 
 module _
     {Shape Label : Type 0} (node : Shape → ℕ) (value : Shape → List Label → List ℕ → Three)
@@ -271,4 +265,4 @@ module _
 
       last : at.moment.blocks ≡ block_of
       last = by at.later (subst (λ rs. AreRounds node value system number at.moment at.later rs)
-          (drop_past rounds number past) at.legal) at.answer
+          (drop_all number rounds past) at.legal) at.answer

@@ -19,6 +19,7 @@ use Rattle.weights.specs.FractionText.{text_of_fraction}
 use Rattle.weights.specs.Numerals.{minus, slash, number_after, number_of}
 use Rattle.formulas.specs.Ranges.{IsWritableFraction}
 use Rattle.formula_text.specs.Numbers.{is_same, number_below, number_if, numerator_bound, label_bound, fraction, lowest_over, fraction_of_pieces, fraction_behind, fraction_in}
+use Rattle.weights.specs.FractionTextLaws.{number_of-decimal}
 
 -- digits and their number as std has them
 own : IsNumeralModel (λ ds. list_all is_ascii_digit ds ≡ true) number_of
@@ -37,12 +38,6 @@ decimal_digits n small = own.from (decimal n) (decimal_is_IsNumeral_wide n small
 -- and one or more
 pub decimal_some : (n : ℕ) → n < 10 ^ 64 → 0 < length (decimal n)
 decimal_some n small = (decimal_is_IsNumeral_wide n small).0.0
-
--- they spell the number
-pub number_of-decimal : (n : ℕ) → n < 10 ^ 64 → number_of (decimal n) ≡ n
-number_of-decimal n small =
-    let is = decimal_is_IsNumeral_wide n small in
-    own.same (decimal n) is.0.1 ∙ is.1
 
 -- a decimal text is read as its number
 pub number_below-decimal :

@@ -4,7 +4,7 @@ use Rattle.std.specs.Prelude.{◌==◌, ◌||◌, if◌then◌else◌, filter}
 use Rattle.std.specs.List.{list_all, slice_split, All, AllByRecursion}
 use Rattle.std.proofs.lemmas.List.{length-append}
 use Rattle.std.proofs.lemmas.List.Elements.{All-head, All-tail}
-use Rattle.std.proofs.lemmas.Bool.{and_parts, and_from, lt-ltb}
+use Rattle.std.proofs.lemmas.Bool.{and_parts, and_from, lt-ltb, not-true}
 use Rattle.std.proofs.lemmas.Bool.Decides.{nat_tests}
 use Rattle.file_cut.specs.Bytes.{IsWord, is_blank, is_word_byte, carriage_return}
 use Rattle.file_cut.specs.Lines.{Numbered, is_no_feed, begun, raw_lines, without_return, is_skipped, numbered_line, lines_from}
@@ -122,10 +122,6 @@ joined_inside (part ∷ next ∷ parts) h =
 
 -- ---- lines
 
-not_false : (b : Bool) → not b ≡ true → b ≡ false
-not_false true e = cc
-not_false false e = refl
-
 inside_no_feed : (b : ℕ) → is_inside b ≡ true → is_no_feed b ≡ true
 inside_no_feed b e = (and_parts (is_no_feed b) (not (b == carriage_return)) e).0
 
@@ -135,14 +131,14 @@ raw_feed :
 raw_feed [] rest h = refl
 raw_feed (b ∷ line) rest h =
     let p = and_parts (is_no_feed b) (list_all is_no_feed line) h in
-    (λ i. begun (not_false (b == 10) p.0 i) b (raw_feed line rest p.1 i))
+    (λ i. begun (not-true (b == 10) p.0 i) b (raw_feed line rest p.1 i))
 
 no_return : (line : List ℕ) → list_all is_inside line ≡ true → line ≡ without_return line
 no_return [] h = refl
 no_return (b ∷ []) h =
     let p = and_parts (is_inside b) true h in
     let q = and_parts (is_no_feed b) (not (b == carriage_return)) p.0 in
-    sym (ap (λ x. if x then [] else b ∷ []) (not_false (b == carriage_return) q.1))
+    sym (ap (λ x. if x then [] else b ∷ []) (not-true (b == carriage_return) q.1))
 no_return (b ∷ c ∷ line) h =
     let p = and_parts (is_inside b) (list_all is_inside (c ∷ line)) h in
     ap (λ l. b ∷ l) (no_return (c ∷ line) p.1)

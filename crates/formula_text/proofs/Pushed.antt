@@ -2,21 +2,16 @@
 use Rattle.std.proofs.Common.{◌≡◌, ℕ, zero, suc, ◌+◌, List, [], ◌∷◌, ◌++◌, drop, slice_get, Some, None, append_assoc, add-one, ap, sym, ◌∙◌}
 use Rattle.formulas.specs.declared.formula.Formula.{Formula}
 use Rattle.std.specs.Fmt.{decimal}
+use Rattle.std.proofs.lemmas.Option.{none-some, same_Some}
 use Rattle.formula_text.specs.Values.{later_trits}
 use Rattle.formula_text.specs.Texts.{formula_line, text_from}
-
-none_some : {X : Type 0} (x : X) → None ≡ Some x → ⊥
-none_some x e = cc
-
-some_same : {X : Type 0} (x y : X) → Some x ≡ Some y → x ≡ y
-some_same x y e = cc
 
 -- an item that is there stands in front of those behind it
 pub drop_at :
     {X : Type 0} (xs : List X) (k : ℕ) (x : X) → slice_get xs k ≡ Some x →
     drop k xs ≡ x ∷ drop (suc k) xs
-drop_at [] k x e = absurd (none_some x e)
-drop_at (y ∷ xs) zero x e = ap (λ z. z ∷ xs) (some_same y x e)
+drop_at [] k x e = absurd (none-some x e)
+drop_at (y ∷ xs) zero x e = ap (λ z. z ∷ xs) (same_Some y x e)
 drop_at (y ∷ xs) (suc k) x e = drop_at xs k x e
 
 -- one trit more

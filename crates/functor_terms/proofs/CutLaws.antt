@@ -3,14 +3,13 @@ use Rattle.std.proofs.Common.{◌≡◌, ℕ, zero, suc, ◌+◌, ◌<◌, ◌�
 use Rattle.std.specs.Prelude.{◌&&◌, ◌||◌, ◌==◌, codes, if◌then◌else◌}
 use Rattle.std.specs.Char.{is_ascii_digit}
 use Rattle.std.specs.List.{prefix_len, list_all, list_any}
-use Rattle.std.proofs.lemmas.Bool.{eqb-true}
+use Rattle.std.proofs.lemmas.Bool.{eqb-true, and_parts}
 use Rattle.file_cut.specs.Bytes.{is_blank, is_word_byte}
 use Rattle.functor_terms.specs.declared.sign.Sign.{Sign}
 use Rattle.functor_terms.specs.declared.sign.Sign.TheVariants.{X, P, B, D, N, Z, Q, Plus, Times, Caret, Open, Close, OpenBrace, CloseBrace, Comma, Digits, Word, Stray}
 use Rattle.functor_terms.specs.Signs.{outside, inside, signs_at, place_in, begins, sign_of, cross_first, cross_second, brace, brace_end, comma}
 use Rattle.functor_terms.specs.Cut.{IsTokenOf, within, IsCutInto, TextsAreCut, OneCut, sign_bytes}
 use Rattle.functor_terms.proofs.FirstSign.{skip, signs-digits, signs-word, front-cross, front-brace, front-sign, front-comma, front-end, front-stray}
-use Rattle.functor_terms.proofs.LabelLaws.{both}
 use Rattle.functor_terms.proofs.TextTokens.{lexes-digits, lexes-word}
 
 -- what is none of a list is not its first, and none of the others
@@ -72,7 +71,7 @@ token-first false Close bytes rest e = ap (λ l. signs_at outside (l ++ rest)) e
 token-first false OpenBrace bytes rest e = ap (λ l. signs_at outside (l ++ rest)) e
 token-first false (Digits []) bytes rest e = absurd (omega (arith, e.1))
 token-first false (Digits (b ∷ digits)) bytes rest e =
-    let (here, others) = both (is_ascii_digit b) (list_all is_ascii_digit digits) e.2 in
+    let (here, others) = and_parts (is_ascii_digit b) (list_all is_ascii_digit digits) e.2 in
     ap (λ l. signs_at outside (l ++ rest)) e.0 ∙ lexes-digits b digits here others rest e.3
 token-first false Stray bytes rest (b, e, stray) =
     ap (λ l. signs_at outside (l ++ rest)) e
@@ -81,7 +80,7 @@ token-first false Stray bytes rest (b, e, stray) =
     ∙ ap (λ s. s ∷ signs_at outside rest) (stray-sign b stray.no_sign)
 token-first true (Word []) bytes rest e = absurd (omega (arith, e.1.0))
 token-first true (Word (b ∷ word)) bytes rest e =
-    let (here, others) = both (is_word_byte b) (list_all is_word_byte word) e.1.1 in
+    let (here, others) = and_parts (is_word_byte b) (list_all is_word_byte word) e.1.1 in
     ap (λ l. signs_at inside (l ++ rest)) e.0 ∙ lexes-word b word rest here others e.2
 token-first true Comma bytes rest e = ap (λ l. signs_at inside (l ++ rest)) e
 token-first true CloseBrace bytes rest e = ap (λ l. signs_at inside (l ++ rest)) e
@@ -97,7 +96,7 @@ skip-all : (braces : Bool) (blanks rest : List ℕ) → list_all is_blank blanks
     → signs_at (place_in braces) (blanks ++ rest) ≡ signs_at (place_in braces) rest
 skip-all braces [] rest e = refl
 skip-all braces (b ∷ blanks) rest e =
-    let (here, others) = both (is_blank b) (list_all is_blank blanks) e in
+    let (here, others) = and_parts (is_blank b) (list_all is_blank blanks) e in
     skip braces b (blanks ++ rest) here ∙ skip-all braces blanks rest others
 
 -- what the text is cut into are its tokens
@@ -238,9 +237,9 @@ cut-outside n below b bytes h blank = digit (is_ascii_digit b) refl
     crossed l is false e no_digit = braced (b == brace) refl no_digit
         (ap (λ l. (b == cross_first) && begins (λ c. c == cross_second) l) is ∙ e)
     crossed [] is true e no_digit =
-        let (here, none) = both (b == cross_first) false e in absurd (cc)
+        let (here, none) = and_parts (b == cross_first) false e in absurd (cc)
     crossed (c ∷ rest) is true e no_digit =
-        let (here, next) = both (b == cross_first) (c == cross_second) e in
+        let (here, next) = and_parts (b == cross_first) (c == cross_second) e in
         let first = eqb-true b cross_first here in
         let second_is = eqb-true c cross_second next in
         let all : bytes ≡ cross_second ∷ rest = is ∙ ap (λ c. c ∷ rest) second_is in

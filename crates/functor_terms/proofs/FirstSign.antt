@@ -60,7 +60,7 @@ blanks-end (c ∷ text) b bytes e = by (is_blank c) refl (blanks-end text b byte
         rest (ap (λ m. drop m (c ∷ text)) one ∙ e)
     by false is rest e = let same : c ≡ b = cc in subst (λ d. is_blank d ≡ false) same is
 
-digit-no-blank : (b : ℕ) → is_ascii_digit b ≡ true → is_blank b ≡ false
+pub digit-no-blank : (b : ℕ) → is_ascii_digit b ≡ true → is_blank b ≡ false
 digit-no-blank b e = grind (arith, nat_tests)
 
 letter-no-blank : (b : ℕ) → is_word_byte b ≡ true → is_blank b ≡ false

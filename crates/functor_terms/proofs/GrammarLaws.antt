@@ -3,6 +3,8 @@ use Rattle.std.proofs.Common.{◌≡◌, ℕ, zero, suc, ◌+◌, ◌<◌, ◌�
 use Rattle.std.specs.Prelude.{option_and_then, nat_lt}
 use Rattle.std.specs.Option.{option_map_or}
 use Rattle.std.proofs.lemmas.Bool.Decides.{nat_tests}
+use Rattle.std.proofs.lemmas.Option.{some_pair_parts}
+use Rattle.std.proofs.lemmas.Bool.{and_parts, and_from}
 use Rattle.functor_terms.specs.declared.node.LabelSet.{LabelSet}
 use Rattle.functor_terms.specs.declared.node.Node.{Node}
 use Rattle.functor_terms.specs.declared.node.Node.TheVariants.{Constant, Power}
@@ -17,8 +19,8 @@ use Rattle.functor_terms.specs.Reading.{Reads, behind_sign, ended, are_small, ma
 use Rattle.functor_terms.proofs.OverLaws.{nodes-append}
 use Rattle.functor_terms.proofs.SignTests.{IsTestOf, caret_test, open_test, close_test, behind_is, weights-no_prefix, letter-no_prefix}
 use Rattle.functor_terms.proofs.PartLaws.{IsOwnPart, each-few}
-use Rattle.functor_terms.proofs.ItemLaws.{parts_of, Found, found_as, IsSound, IsComplete, and_then_of, ended_of, FoundItems, items-sound, Join, items-complete}
-use Rattle.functor_terms.proofs.LabelLaws.{both, both_true, labels-sound, labels-complete}
+use Rattle.functor_terms.proofs.ItemLaws.{Found, found_as, IsSound, IsComplete, and_then_of, ended_of, FoundItems, items-sound, Join, items-complete}
+use Rattle.functor_terms.proofs.LabelLaws.{labels-sound, labels-complete}
 
 -- a part within the bounds of terms
 abbrev pub IsBounded : Part → Type 0
@@ -49,7 +51,7 @@ AfterSum ts = AfterProduct ts × (behind_sign is_plus ts ≡ None)
 pub small-bounded : (node : Node) (parts : List Part) → are_small parts ≡ true
     → IsBounded (over node parts)
 small-bounded node parts e =
-    let (few, shallow) = both (nat_lt (length (nodes_of parts)) node_limit)
+    let (few, shallow) = and_parts (nat_lt (length (nodes_of parts)) node_limit)
     (nat_lt (deepest parts) depth_limit) e in
     let less : length (nodes_of parts) < 256 = grind (arith, nat_tests) in
     let low : deepest parts < 32 = grind (arith, nat_tests) in
@@ -60,7 +62,7 @@ bounded-small : (node : Node) (parts : List Part) → IsBounded (over node parts
 bounded-small node parts (shallow, few) =
     let less : length (nodes_of parts) < 256 = omega (arith, few) in
     let low : deepest parts < 32 = omega (arith, shallow) in
-    both_true (nat_lt (length (nodes_of parts)) node_limit) (nat_lt (deepest parts) depth_limit)
+    and_from (nat_lt (length (nodes_of parts)) node_limit) (nat_lt (deepest parts) depth_limit)
     (grind (arith, nat_tests)) (grind (arith, nat_tests))
 
 pub made_of : (node : Node) (parts : List Part) (ts : List Sign) (y : Part) (rest : List Sign)
@@ -71,7 +73,7 @@ made_of node parts ts y rest e = by (are_small parts) refl e
     by : (b : Bool) → are_small parts ≡ b → cond {A = Option (Part × List Sign)} b
         (Some (over node parts, ts)) None ≡ Some (y, rest)
         → (over node parts ≡ y) × (ts ≡ rest) × IsBounded (over node parts)
-    by true is e = let (here, there) = parts_of (over node parts) y ts rest e in
+    by true is e = let (here, there) = some_pair_parts (over node parts) y ts rest e in
         (here, there, small-bounded node parts is)
     by false is e = cc
 
@@ -162,7 +164,7 @@ powers-sound (suc n) base ts x rest bounded e = by (powers-sound n) (behind_sign
         (λ behind. option_and_then (λ p. powers_from n p.0 p.1) (raised base behind)) r
         (Some (base, ts)) ≡ Some (x, rest) → FoundPowers base ts x rest
     by others None is e =
-        let (here, there) = parts_of base x ts rest e in
+        let (here, there) = some_pair_parts base x ts rest e in
         record {
           exponents = [];
           front = [];

@@ -2,16 +2,11 @@
 use Rattle.std.proofs.Common.{◌≡◌, ℕ, zero, suc, ◌≤◌, List, [], ◌∷◌, ◌++◌, length, Option, Some, None, Bool, true, false, refl, sym, ap, ◌∙◌, subst, append_assoc, arith}
 use Rattle.std.specs.Prelude.{option_map, option_and_then, if◌then◌else◌}
 use Rattle.std.specs.Option.{option_map_or}
+use Rattle.std.proofs.lemmas.Option.{some_pair_parts}
 use Rattle.functor_terms.specs.declared.sign.Sign.{Sign}
 use Rattle.functor_terms.specs.Grammar.{SpellsEach}
 use Rattle.functor_terms.specs.Reading.{Reads, behind_sign, ended, others_behind, joined_by, items_from}
 use Rattle.functor_terms.proofs.SignTests.{IsTestOf, behind_is, sign_behind}
-
--- what was read, and what is left
-pub parts_of : {A B : Type 0} (x y : A) (s r : B) → ◌≡◌ {A = Option (A × B)} (Some (x, s))
-    (Some (y, r)) → (x ≡ y) × (s ≡ r)
-parts_of {A = A} {B = B} x y s r e = let p : A × B = (x, s) in let q : A × B = (y, r) in
-    let same : p ≡ q = cc in (ap (λ w. w.0) same, ap (λ w. w.1) same)
 
 -- what is read is spelled by the tokens that were passed
 pub record Found {A : Type 0} (Spelled : List Sign → A → Type 0) (ts : List Sign) (x : A)
@@ -23,7 +18,7 @@ pub record Found {A : Type 0} (Spelled : List Sign → A → Type 0) (ts : List 
 pub found_as : {A : Type 0} (Spelled : List Sign → A → Type 0) (ts : List Sign) (x y : A)
     (s r : List Sign) → ◌≡◌ {A = Option (A × List Sign)} (Some (x, s)) (Some (y, r))
     → Found Spelled ts x s → Found Spelled ts y r
-found_as Spelled ts x y s r e found = let (here, there) = parts_of x y s r e in
+found_as Spelled ts x y s r e found = let (here, there) = some_pair_parts x y s r e in
     subst (λ z. Found Spelled ts z r) here (subst (Found Spelled ts x) there found)
 
 -- what is read is spelled
@@ -59,7 +54,7 @@ ended_of {A = A} passes sign test x y ts rest e = by (behind_sign passes ts) ref
         → ◌≡◌ {A = Option (A × List Sign)} (option_map (λ s. (x, s)) r) (Some (y, rest))
         → (x ≡ y) × (ts ≡ sign ∷ rest)
     by None is e = cc
-    by (Some s) is e = let (here, there) = parts_of x y s rest e in
+    by (Some s) is e = let (here, there) = some_pair_parts x y s rest e in
         (here, behind_is passes sign test ts s is ∙ ap (λ l. sign ∷ l) there)
 
 pub ended_at : {A : Type 0} (passes : Sign → Bool) (sign : Sign) (test : IsTestOf passes sign)
@@ -90,7 +85,7 @@ module _ {A : Type 0} (item : Reads A) (passes : Sign → Bool) (between : Sign)
         (Some (before ++ x ∷ [], behind)) (Some (items, rest))
         → FoundItems Spelled Kept (suc n) before ts items rest
     last_item n before ts x behind items rest kept joined found e =
-        let (here, there) = parts_of (before ++ x ∷ []) items behind rest e in
+        let (here, there) = some_pair_parts (before ++ x ∷ []) items behind rest e in
         record {
           more = x ∷ [];
           front = found.front;

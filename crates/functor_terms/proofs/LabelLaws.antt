@@ -5,6 +5,8 @@ use Rattle.std.specs.List.{AllByRecursion, IsDistinct, list_any, list_all}
 use Rattle.std.specs.Str.Parse.{digits_value}
 use Rattle.std.proofs.lemmas.Bool.Decides.{nat_tests}
 use Rattle.std.proofs.lemmas.Slice.Eq.{bytes_eq-Decides}
+use Rattle.std.proofs.lemmas.Bool.{and_parts, and_from}
+use Rattle.std.proofs.lemmas.Option.{some_pair_parts}
 use Rattle.file_cut.specs.Bytes.{IsName, is_word_byte, inj_word}
 use Rattle.file_cut.specs.Tokens.{is_inj}
 use Rattle.functor_terms.specs.declared.node.LabelSet.{LabelSet}
@@ -20,22 +22,14 @@ use Rattle.functor_terms.specs.Reading.{word_at, words_at, is_name, is_new_name,
 use Rattle.functor_terms.proofs.NamesLemmas.{all-push, apart}
 use Rattle.functor_terms.proofs.WordLemmas.{place-any}
 use Rattle.functor_terms.proofs.SignTests.{comma_test, brace_end_test}
-use Rattle.functor_terms.proofs.ItemLaws.{parts_of, Found, IsSound, IsComplete, and_then_of, ended_of, ended_at, items-sound, Join, items-complete}
-
--- both of two tests
-pub both : (a b : Bool) → (a && b) ≡ true → (a ≡ true) × (b ≡ true)
-both true b e = (refl, e)
-both false b e = absurd (true≢false (sym e))
-
-pub both_true : (a b : Bool) → a ≡ true → b ≡ true → (a && b) ≡ true
-both_true a b p q = λ i. (p ∙ sym refl) i && q i
+use Rattle.functor_terms.proofs.ItemLaws.{Found, IsSound, IsComplete, and_then_of, ended_of, ended_at, items-sound, Join, items-complete}
 
 -- the test of names is right
 is_name-name : (word : List ℕ) → is_name word ≡ true → IsName word
 is_name-name word e =
-    let (word_is, other) = both (nat_lt 0 (length word) && list_all is_word_byte word)
+    let (word_is, other) = and_parts (nat_lt 0 (length word) && list_all is_word_byte word)
     (not (is_inj word)) e in
-    let (some, bytes) = both (nat_lt 0 (length word)) (list_all is_word_byte word) word_is in (
+    let (some, bytes) = and_parts (nat_lt 0 (length word)) (list_all is_word_byte word) word_is in (
       ((grind (arith, nat_tests)), bytes),
       (λ is. true≢false
           (sym other ∙ ap not ((bytes_eq-Decides word inj_word).1 is))),
@@ -43,8 +37,8 @@ is_name-name word e =
 
 name-is_name : (word : List ℕ) → IsName word → is_name word ≡ true
 name-is_name word ((some, bytes), other) =
-    both_true (nat_lt 0 (length word) && list_all is_word_byte word) (not (is_inj word))
-    (both_true (nat_lt 0 (length word)) (list_all is_word_byte word)
+    and_from (nat_lt 0 (length word) && list_all is_word_byte word) (not (is_inj word))
+    (and_from (nat_lt 0 (length word)) (list_all is_word_byte word)
     (grind (arith, nat_tests)) bytes) (by (is_inj word) refl)
   where
     by : (b : Bool) → is_inj word ≡ b → not b ≡ true
@@ -105,7 +99,7 @@ AreDistinctNames words = IsDistinct is_same_word words × AllByRecursion IsName 
 names-push : (words : List (List ℕ)) (word : List ℕ) (ts : List Sign) → AreDistinctNames words
     → is_new_name words word ≡ true → SpellsWord ts word → AreDistinctNames (words ++ word ∷ [])
 names-push words word ts (distinct, each) e spelled =
-    let (name, new) = both (is_name word) (is_none (place_of word words)) e in (
+    let (name, new) = and_parts (is_name word) (is_none (place_of word words)) e in (
       distinct-push words word distinct (not_any words word (sym (new-apart words word) ∙ new)),
       all-push IsName words word each (is_name-name word name),
     )
@@ -117,7 +111,7 @@ names-join words [] distinct each = tt
 names-join words (x ∷ xs) distinct each =
     let regrouped : words ++ x ∷ xs ≡ (words ++ x ∷ []) ++ xs =
     sym (append_assoc words (x ∷ []) xs) in (
-      both_true (is_name x) (is_none (place_of x words))
+      and_from (is_name x) (is_none (place_of x words))
           (name-is_name x (all_first IsName words xs x each))
           (new-apart words x ∙ ap not (distinct-new words xs x distinct)),
       names-join (words ++ x ∷ []) xs
@@ -127,7 +121,7 @@ names-join words (x ∷ xs) distinct each =
 
 word-sound : IsSound word_at SpellsWord
 word-sound [] x rest e = cc
-word-sound (Word word ∷ ts) x rest e = let (here, there) = parts_of word x ts rest e in
+word-sound (Word word ∷ ts) x rest e = let (here, there) = some_pair_parts word x ts rest e in
     record {
       front = Word word ∷ [];
       split = ap (λ l. Word word ∷ l) there;
@@ -204,7 +198,7 @@ below-sound digits ts labels rest e = by (nat_lt 0 (digits_value 10 digits) && n
     (digits_value 10 digits) label_limit) refl e
   where
     bounds : (n : ℕ) → (nat_lt 0 n && nat_le n label_limit) ≡ true → (0 < n) × (n ≤ label_limit)
-    bounds n e = let (low, high) = both (nat_lt 0 n) (nat_le n label_limit) e in
+    bounds n e = let (low, high) = and_parts (nat_lt 0 n) (nat_le n label_limit) e in
         (grind (arith, nat_tests), grind (arith, nat_tests))
 
     by : (b : Bool) → (nat_lt 0 (digits_value 10 digits) && nat_le
@@ -212,7 +206,7 @@ below-sound digits ts labels rest e = by (nat_lt 0 (digits_value 10 digits) && n
         (Some (Below (digits_value 10 digits), ts)) None ≡ Some (labels, rest)
         → Found SpellsLabels (Digits digits ∷ ts) labels rest
     by true is e =
-        let (made, there) = parts_of (Below (digits_value 10 digits)) labels ts rest e in
+        let (made, there) = some_pair_parts (Below (digits_value 10 digits)) labels ts rest e in
         record {
           front = Digits digits ∷ [];
           split = ap (λ l. Digits digits ∷ l) there;
@@ -230,7 +224,7 @@ labels-sound (_ ∷ ts) labels rest e = cc
 below-complete : (n : ℕ) (rest : List Sign) → AreLabels (Below n)
     → below_at n rest ≡ Some (Below n, rest)
 below-complete n rest (low, high) = ap (λ b. cond {A = Option (LabelSet × List Sign)} b
-    (Some (Below n, rest)) None) (both_true (nat_lt 0 n) (nat_le n label_limit)
+    (Some (Below n, rest)) None) (and_from (nat_lt 0 n) (nat_le n label_limit)
     (grind (arith, nat_tests)) (grind (arith, nat_tests)))
 
 pub labels-complete : IsComplete labels_at SpellsLabels (λ _. Unit {0})

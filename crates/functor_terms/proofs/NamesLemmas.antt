@@ -5,6 +5,8 @@ use Rattle.std.proofs.Common.{zero, suc, take}
 use Rattle.std.specs.List.{AllByRecursion}
 use Rattle.std.proofs.lemmas.Slice.Eq.{bytes_eq-Decides}
 use Rattle.std.specs.List.{list_any, IsDistinct}
+use Rattle.std.proofs.lemmas.List.{map_push, length_push}
+use Rattle.std.proofs.lemmas.Option.{none-some, same_Some}
 use Rattle.file_cut.specs.Bytes.{IsName}
 use Rattle.functor_terms.specs.Words.{is_same_word, place_of, AreNames}
 use Rattle.functor_terms.proofs.WordLemmas.{IsDistinct-map, place-any}
@@ -14,19 +16,10 @@ pub no_names : AreNames []
 unfolding IsDistinct
 no_names = record { distinct = tt; each = tt; few = omega arith }
 
-list_any-map : {X Y : Type 0} (p : Y → Bool) (f : X → Y) (xs : List X)
+pub list_any-map : {X Y : Type 0} (p : Y → Bool) (f : X → Y) (xs : List X)
     → list_any p (map f xs) ≡ list_any (λ x. p (f x)) xs
 list_any-map p f [] = refl
 list_any-map p f (x ∷ xs) = ap (λ b. p (f x) || b) (list_any-map p f xs)
-
-map-push : {X Y : Type 0} (f : X → Y) (xs : List X) (x : X)
-    → map f (xs ++ x ∷ []) ≡ map f xs ++ f x ∷ []
-map-push f [] x = refl
-map-push f (y ∷ ys) x = ap (λ l. f y ∷ l) (map-push f ys x)
-
-length-push : {X : Type 0} (xs : List X) (x : X) → length (xs ++ x ∷ []) ≡ length xs + 1
-length-push [] x = omega arith
-length-push (y ∷ ys) x = omega (arith, length-push ys x)
 
 pub all-push : {X : Type 0} (P : X → Type 0) (xs : List X) (x : X) → AllByRecursion P xs → P x
     → AllByRecursion P (xs ++ x ∷ [])
@@ -41,7 +34,7 @@ module _ {X : Type 0} (now : X → List ℕ) where
       → map now (if b then ks else ks ++ k ∷ []) ≡ (if b then map now ks else map now ks
       ++ now k ∷ [])
   inserted ks k true = refl
-  inserted ks k false = map-push now ks k
+  inserted ks k false = map_push now ks k
 
   grown : (words : List (List ℕ)) (w : List ℕ) (b : Bool) → AreNames words → IsName w
       → length words + 1 < 2 ^ 32 → IsDistinct is_same_word (if b then words else words ++ w ∷ [])
@@ -50,7 +43,7 @@ module _ {X : Type 0} (now : X → List ℕ) where
   grown words w false is name room d = record {
     distinct = d;
     each = all-push IsName words w is.each name;
-    few = omega (arith, length-push words w);
+    few = omega (arith, length_push words w);
   }
 
   -- the names after a name is added
@@ -80,12 +73,6 @@ module _ {X : Type 0} (now : X → List ℕ) where
   added-place_of ks k r e = by_none (place_of (now k) (map now ks)) (list_any (same k) ks) r
       (place-any (is_same_word (now k)) (map now ks) ∙ list_any-map (is_same_word (now k)) now ks) e
 
-none_some : {X : Type 0} (x : X) → None ≡ Some x → ⊥
-none_some x e = cc
-
-some_same : {X : Type 0} (x y : X) → Some x ≡ Some y → x ≡ y
-some_same x y e = cc
-
 pub apart : (x y : List ℕ) → is_same_word x y ≡ false → is_same_word y x ≡ false
 apart x y h = by (is_same_word y x) refl
   where
@@ -94,10 +81,10 @@ apart x y h = by (is_same_word y x) refl
     by true e = absurd (true≢false
         (sym ((bytes_eq-Decides x y).1 (sym ((bytes_eq-Decides y x).0 e))) ∙ h))
 
-all_at : (P : List ℕ → Type 0) (xs : List (List ℕ)) → AllByRecursion P xs → (i : ℕ) (w : List ℕ)
+pub all_at : (P : List ℕ → Type 0) (xs : List (List ℕ)) → AllByRecursion P xs → (i : ℕ) (w : List ℕ)
     → slice_get xs i ≡ Some w → P w
-all_at P [] all i w e = absurd (none_some w e)
-all_at P (x ∷ xs) all zero w e = subst P (some_same x w e) all.0
+all_at P [] all i w e = absurd (none-some w e)
+all_at P (x ∷ xs) all zero w e = subst P (same_Some x w e) all.0
 all_at P (x ∷ xs) all (suc i) w e = all_at P xs all.1 i w e
 
 -- each word of a table is a name
@@ -109,7 +96,7 @@ word_is_name words is i w e = all_at IsName words is.each i w e
 new_in : (words : List (List ℕ)) → IsDistinct is_same_word words → (i : ℕ) (w : List ℕ)
     → slice_get words i ≡ Some w → list_any (is_same_word w) (take i words) ≡ false
 unfolding IsDistinct
-new_in [] d i w e = absurd (none_some w e)
+new_in [] d i w e = absurd (none-some w e)
 new_in (x ∷ xs) d zero w e = refl
 new_in (x ∷ xs) d (suc i) w e = (λ k. apart x w (all_at (λ y. is_same_word x y ≡ false) xs d.0 i w
     e) k || list_any (is_same_word w) (take i xs)) ∙ new_in xs d.1 i w e
@@ -120,8 +107,8 @@ is_none (Some x) h = absurd (true≢false h)
 
 take-one : (words : List (List ℕ)) (i : ℕ) (w : List ℕ) → slice_get words i ≡ Some w
     → take (suc i) words ≡ take i words ++ w ∷ []
-take-one [] i w e = absurd (none_some w e)
-take-one (x ∷ xs) zero w e = ap (λ y. y ∷ []) (some_same x w e)
+take-one [] i w e = absurd (none-some w e)
+take-one (x ∷ xs) zero w e = ap (λ y. y ∷ []) (same_Some x w e)
 take-one (x ∷ xs) (suc i) w e = ap (λ l. x ∷ l) (take-one xs i w e)
 
 -- so a copy of the first words grows by the next

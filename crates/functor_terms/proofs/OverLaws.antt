@@ -4,6 +4,7 @@ use Rattle.std.specs.List.{AllByRecursion}
 use Rattle.std.proofs.lemmas.List.{take_more}
 use Rattle.functor_terms.specs.declared.node.Node.{Node}
 use Rattle.functor_terms.specs.Terms.{Nodes, Part, branch, over, starts, nodes_of, deepest, IsWithin, IsSmall, node_limit, depth_limit}
+use Rattle.functor_terms.proofs.NamesLemmas.{all-push}
 
 starts-push : (n : ℕ) (xs : List Part) (x : Part)
     → starts n (xs ++ x ∷ []) ≡ starts n xs ++ (n + length (nodes_of xs)) ∷ []
@@ -133,11 +134,6 @@ too_large parts k children next depth outline (inr deep) small =
     let shallow : deepest (take k parts) < 32 = (small-take parts k small).shallow in
     let deep' : 32 ≤ depth = deep in
     absurd (omega (arith, shallow, deep', outline.depth_is))
-
-all-push : {X : Type 0} (P : X → Type 0) (xs : List X) (x : X) → AllByRecursion P xs → P x
-    → AllByRecursion P (xs ++ x ∷ [])
-all-push P [] x all here = (here, tt)
-all-push P (y ∷ ys) x all here = (all.0, all-push P ys x all.1 here)
 
 -- one more part within the bounds
 pub within-push : (parts : List Part) (k : ℕ) (x : Part) → k < length parts → x ≡ get_or parts k x

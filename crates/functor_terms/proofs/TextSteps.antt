@@ -3,6 +3,7 @@ use Rattle.std.proofs.Common.{◌≡◌, ℕ, zero, suc, ◌+◌, ◌<◌, ◌�
 use Rattle.std.specs.Prelude.{slice_get, nat_le, ◌==◌, if◌then◌else◌, codes, Result, Ok, Err, is_ok, OnOk}
 use Rattle.std.specs.List.{flat_map, join_by}
 use Rattle.std.proofs.lemmas.Bool.Decides.{nat_tests}
+use Rattle.std.proofs.lemmas.Option.{none-some, same_Some}
 use Rattle.functor_terms.specs.declared.node.Node.{Node}
 use Rattle.functor_terms.specs.declared.node.Node.TheVariants.{Product, Sum, Power}
 use Rattle.functor_terms.specs.Terms.{Nodes, IsTerm, node_at, children_at}
@@ -53,15 +54,9 @@ only-loose t is p [] e = within-same sum_level (shown prefix_level []) (omega ar
 only-loose t is p (q ∷ qs) e = shown-loose t is q
     (term-later t is p q (subst (λ l. Contains l q) (sym e) (0, omega arith, refl))).1
 
-none_some : {X : Type 0} (x : X) → None ≡ Some x → ⊥
-none_some x e = cc
-
-some_same : {X : Type 0} (x y : X) → Some x ≡ Some y → x ≡ y
-some_same x y e = cc
-
 contained : (xs : List ℕ) (i x : ℕ) → slice_get xs i ≡ Some x → Contains xs x
-contained [] i x e = absurd (none_some x e)
-contained (y ∷ ys) zero x e = (0, omega arith, some_same y x e)
+contained [] i x e = absurd (none-some x e)
+contained (y ∷ ys) zero x e = (0, omega arith, same_Some y x e)
 contained (y ∷ ys) (suc i) x e =
     let (k, below, same) = contained ys i x e in (suc k, omega (arith, below), same)
 
@@ -82,8 +77,8 @@ separated separator i = by (suc i == 0) (grind (arith, nat_tests))
 flat-more : {X A : Type 0} (f : X → List A) (xs : List X) (i : ℕ) (x : X)
     → slice_get xs i ≡ Some x
     → flat_map f (take (i + 1) xs) ≡ flat_map f (take i xs) ++ f x
-flat-more f [] i x e = absurd (none_some x e)
-flat-more f (y ∷ ys) zero x e = append-nil (f y) ∙ ap f (some_same y x e)
+flat-more f [] i x e = absurd (none-some x e)
+flat-more f (y ∷ ys) zero x e = append-nil (f y) ∙ ap f (same_Some y x e)
 flat-more f (y ∷ ys) (suc i) x e =
     let same : suc i + 1 ≡ suc (i + 1) = omega arith in
     ap (λ n. flat_map f (take n (y ∷ ys))) same ∙ ap (λ l. f y ++ l) (flat-more f ys i x e)
@@ -94,8 +89,8 @@ join-more : {X A : Type 0} (f : X → List A) (separator : List A) (xs : List X)
     → slice_get xs i ≡ Some x
     → join_by f separator (take (i + 1) xs)
     ≡ (join_by f separator (take i xs) ++ (if i == 0 then [] else separator)) ++ f x
-join-more f separator [] i x e = absurd (none_some x e)
-join-more f separator (y ∷ ys) zero x e = append-nil (f y) ∙ ap f (some_same y x e)
+join-more f separator [] i x e = absurd (none-some x e)
+join-more f separator (y ∷ ys) zero x e = append-nil (f y) ∙ ap f (same_Some y x e)
 join-more f separator (y ∷ ys) (suc i) x e =
     let same : suc i + 1 ≡ suc (i + 1) = omega arith in
     ap (λ n. join_by f separator (take n (y ∷ ys))) same
@@ -121,8 +116,8 @@ join-turn f separator xs i x old kept before new at is first second =
 -- a child by its place, as it is shown
 pub shown-child : {X Y : Type 0} (f : X → Y) (xs : List X) (i : ℕ) (x : X)
     → slice_get xs i ≡ Some x → slice_get (map f xs) i ≡ Some (f x)
-shown-child f [] i x e = absurd (none_some x e)
-shown-child f (y ∷ ys) zero x e = ap (λ z. Some (f z)) (some_same y x e)
+shown-child f [] i x e = absurd (none-some x e)
+shown-child f (y ∷ ys) zero x e = ap (λ z. Some (f z)) (same_Some y x e)
 shown-child f (y ∷ ys) (suc i) x e = shown-child f ys i x e
 
 -- A node, put as it stands or in parentheses.

@@ -7,6 +7,7 @@ use Rattle.std.specs.Str.Parse.{AllDigits, digits_value}
 use Rattle.std.proofs.lemmas.Bool.Decides.{nat_tests}
 use Rattle.std.proofs.lemmas.Fmt.{decimal_is_IsNumeral}
 use Rattle.std.proofs.lemmas.Str.Parse.{digit_at}
+use Rattle.std.proofs.lemmas.Bool.{and_parts}
 use Rattle.file_cut.specs.Bytes.{is_blank, is_word_byte, IsName}
 use Rattle.file_cut.proofs.TokenLaws.{blank_ends}
 use Rattle.functor_terms.specs.declared.node.LabelSet.{LabelSet}
@@ -18,7 +19,7 @@ use Rattle.functor_terms.specs.Signs.{outside, inside, second, begins, digit_bef
 use Rattle.functor_terms.specs.Grammar.{SpellsEach, SpellsWord, SpellsLabels}
 use Rattle.functor_terms.specs.Grammar.SpellsLabels.{below, listed}
 use Rattle.functor_terms.specs.Text.{label_text, enclosed}
-use Rattle.functor_terms.proofs.LabelLaws.{both}
+use Rattle.functor_terms.proofs.FirstSign.{digit-no-blank}
 
 -- outside braces the bytes are these tokens, where no digit follows
 abbrev pub Lexes : List ℕ → List Sign → Type 0
@@ -41,15 +42,11 @@ lexes-enclosed text tokens is rest ends =
     ∙ ap (λ l. Open ∷ l) (is (codes ")" ++ rest) refl ∙ sym
     (append_assoc tokens (Close ∷ []) (signs_at outside rest)))
 
--- Digits.
-digit_no_blank : (b : ℕ) → is_ascii_digit b ≡ true → is_blank b ≡ false
-digit_no_blank b digit = grind (arith, nat_tests)
-
 digit-step : (b : ℕ) (bytes : List ℕ) (behind : Place → List Sign) → is_ascii_digit b ≡ true
     → sign_outside b bytes behind ≡ (if begins is_ascii_digit bytes then digit_before b
     (behind outside) else Digits (b ∷ []) ∷ behind outside)
 digit-step b bytes behind digit = λ i.
-    if digit_no_blank b digit i then behind outside
+    if digit-no-blank b digit i then behind outside
     else (if digit i then (if begins is_ascii_digit bytes then digit_before b
     (behind outside) else Digits (b ∷ []) ∷ behind outside)
     else (if (b == cross_first) && begins (λ c. c == cross_second) bytes then Times ∷ behind second
@@ -64,7 +61,7 @@ lexes-digits b [] digit all rest ends =
     ∙ ap (λ x. if x then digit_before b (signs_at outside rest) else Digits
     (b ∷ []) ∷ signs_at outside rest) ends
 lexes-digits b (c ∷ digits) digit all rest ends =
-    let (here, others) = both (is_ascii_digit c) (list_all is_ascii_digit digits) all in
+    let (here, others) = and_parts (is_ascii_digit c) (list_all is_ascii_digit digits) all in
     digit-step b (c ∷ (digits ++ rest)) (λ place. signs_at place (c ∷ (digits ++ rest))) digit
     ∙ ap (λ x. if x then digit_before b (signs_at outside (c ∷ (digits ++ rest))) else Digits
     (b ∷ []) ∷ signs_at outside (c ∷ (digits ++ rest))) here
@@ -98,7 +95,7 @@ lexes-word b [] rest here all ends =
     ∙ ap (λ x. if x then letter_before b (signs_at inside rest) else Word
     (b ∷ []) ∷ signs_at inside rest) ends
 lexes-word b (c ∷ word) rest byte all ends =
-    let (here, others) = both (is_word_byte c) (list_all is_word_byte word) all in
+    let (here, others) = and_parts (is_word_byte c) (list_all is_word_byte word) all in
     word-step b (c ∷ (word ++ rest)) (λ place. signs_at place (c ∷ (word ++ rest))) byte
     ∙ ap (λ x. if x then letter_before b (signs_at inside (c ∷ (word ++ rest))) else Word
     (b ∷ []) ∷ signs_at inside (c ∷ (word ++ rest))) here
@@ -125,7 +122,7 @@ lexes-name : (word rest : List ℕ) → IsName word → begins is_word_byte rest
     → signs_at inside (word ++ rest) ≡ Word word ∷ signs_at inside rest
 lexes-name [] rest name ends = absurd (omega (arith, name.0.0))
 lexes-name (b ∷ word) rest name ends = let (here, others) =
-    both (is_word_byte b) (list_all is_word_byte word) name.0.1 in
+    and_parts (is_word_byte b) (list_all is_word_byte word) name.0.1 in
     lexes-word b word rest here others ends
 
 lexes-words : (word : List ℕ) (words : List (List ℕ)) (rest : List ℕ)
@@ -158,7 +155,7 @@ below-tokens : (n : ℕ) (digits : List ℕ) → digits ≡ decimal n
     → LabelTokens (Below n)
 below-tokens n [] is numeral value are = absurd (omega (arith, numeral.0))
 below-tokens n (b ∷ digits) is numeral value are =
-    let (here, others) = both (is_ascii_digit b) (list_all is_ascii_digit digits)
+    let (here, others) = and_parts (is_ascii_digit b) (list_all is_ascii_digit digits)
     (all_digits (b ∷ digits) numeral.1) in
     record {
       tokens = Digits (b ∷ digits) ∷ [];

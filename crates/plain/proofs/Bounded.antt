@@ -9,13 +9,11 @@ use Rattle.typing.specs.declared.value.Value.{Value, Value-F, out-Value, roll-Va
 use Rattle.typing.specs.Values.{parts, parts_in, inner, inner_in, entries, entries_in, relabelled}
 use Rattle.typing.specs.Bounds.{within_step, is_bounded, absolute_sum}
 use Rattle.typing.proofs.MapLaws.{mapped, out_map}
+use Rattle.typing.proofs.ReadyLaws.{bounded_out}
 
 -- one level of a value in bounds
 abbrev pub layer_bounded : Value-F Value → Bool
 layer_bounded x = within_step (2 ^ 126) (map-Value Value Bool is_bounded x)
-
-pub bounded_out : (v : Value) → is_bounded v ≡ layer_bounded (out-Value v)
-bounded_out v = fold_out-Value Bool (within_step (2 ^ 126)) v
 
 -- entries with tests for their values
 abbrev pub tested : List (Value × ℤ) → List (Bool × ℤ)

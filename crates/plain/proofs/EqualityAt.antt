@@ -4,13 +4,14 @@ use Rattle.std.specs.Prelude.{ℤ, ◌==◌, if◌then◌else◌}
 use Rattle.std.specs.Ordering.{int_eq}
 use Rattle.std.proofs.lemmas.Bool.Decides.{nat_tests}
 use Rattle.std.proofs.lemmas.List.Folds.{list_all-append}
+use Rattle.std.proofs.lemmas.Option.{none-some}
 use Rattle.functor_terms.specs.declared.node.Node.{Node}
 use Rattle.functor_terms.specs.Terms.{Nodes, IsTerm, node_at, children_at}
 use Rattle.functor_terms.proofs.Folds.{fold-at}
 use Rattle.typing.specs.declared.value.Value.{Value}
 use Rattle.typing.specs.Equality.{Test, no_test, test_at, eq_step, are_equal, same_totals, the_sum}
-use Rattle.typing.proofs.FirstPlaces.{none_some}
 use Rattle.plain.specs.Pairs.{child_test, total_at, agree_at}
+use Rattle.typing.proofs.TermFacts.{not_zero, test_at-suc}
 
 -- equality at a node is a step from its children
 pub equal-at : (t : Nodes) → IsTerm t → (p : ℕ) → p < length t → (m : Node) → m ≡ node_at t p
@@ -19,18 +20,11 @@ pub equal-at : (t : Nodes) → IsTerm t → (p : ℕ) → p < length t → (m : 
 equal-at t is p h m e u v r k = k ∙ ap (λ n. eq_step n (map (are_equal t) (children_at t p)) u v) e
     ∙ sym (ap (λ (f : Test). f u v) (fold-at no_test eq_step t is p h))
 
-not_zero : (k : ℕ) → (suc k == 0) ≡ false
-not_zero k = grind (arith, nat_tests)
-
-test_at-suc : (f : Test) (fs : List Test) (k : ℕ) → test_at (f ∷ fs) (suc k) ≡ test_at fs k
-test_at-suc f fs k = ap (λ b. if b then f else test_at fs (suc k - 1)) (not_zero k)
-    ∙ ap (test_at fs) (let e : suc k - 1 ≡ k = omega arith in e)
-
 -- any two values are equal at a child that is not there
 pub test_none : (t : Nodes) (qs : List ℕ) (k : ℕ) → slice_get qs k ≡ None
     → test_at (map (are_equal t) qs) k ≡ no_test
 test_none t [] k e = refl
-test_none t (r ∷ qs) zero e = absurd (none_some r (sym e))
+test_none t (r ∷ qs) zero e = absurd (none-some r (sym e))
 test_none t (r ∷ qs) (suc k) e = test_at-suc (are_equal t r) (map (are_equal t) qs) k
     ∙ test_none t qs k e
 

@@ -6,13 +6,12 @@ use Rattle.std.specs.Option.{option_map}
 use Rattle.std.proofs.lemmas.Bool.{and_parts, and_from}
 use Rattle.std.proofs.lemmas.Bool.Decides.{nat_tests}
 use Rattle.std.proofs.lemmas.List.{length-map}
-use Rattle.std.proofs.lemmas.Option.{slice_get-map}
+use Rattle.std.proofs.lemmas.Option.{slice_get-map, none-some, same_Some}
 use Rattle.functor_terms.specs.Terms.{Nodes}
 use Rattle.typing.specs.declared.value.Value.{Value}
 use Rattle.typing.specs.Values.{relabelled}
 use Rattle.typing.specs.Equality.{are_equal}
 use Rattle.typing.specs.Stable.{IsStable, first_equal, regrouped}
-use Rattle.typing.proofs.FirstPlaces.{none_some, some_same}
 use Rattle.plain.specs.Pairs.{are_like, all_alike, first_place}
 
 when : (c x : Bool) → c ≡ true → (if c then x else true) ≡ true → x ≡ true
@@ -34,10 +33,10 @@ module _ (t : Nodes) where
   like_at : (n : ℕ) (u : Value) (ls : List ℕ) (vs : List Value) → length ls ≡ length vs
       → are_like t n u ls vs ≡ true → (j : ℕ) (v : Value) → slice_get vs j ≡ Some v
       → n ≡ slice_index ls j → are_equal t 0 u v ≡ true
-  like_at n u ls [] c h j v at e = absurd (none_some v at)
+  like_at n u ls [] c h j v at e = absurd (none-some v at)
   like_at n u [] (w ∷ vs) c h j v at e = absurd (omega (arith, c))
   like_at n u (l ∷ ls) (w ∷ vs) c h zero v at e =
-      subst (λ x. are_equal t 0 u x ≡ true) (some_same w v at)
+      subst (λ x. are_equal t 0 u x ≡ true) (same_Some w v at)
       (when (n == l) (are_equal t 0 u w) (number_same n l e)
       (and_parts (if n == l then are_equal t 0 u w else true) (are_like t n u ls vs) h).0)
   like_at n u (l ∷ ls) (w ∷ vs) c h (suc j) v at e =
@@ -59,10 +58,10 @@ module _ (t : Nodes) where
       → length bs ≡ length vs → all_alike t ks us bs vs ≡ true
       → (i j : ℕ) (u v : Value) → slice_get us i ≡ Some u → slice_get vs j ≡ Some v
       → slice_index ks i ≡ slice_index bs j → are_equal t 0 u v ≡ true
-  alike_at ks [] bs vs c d h i j u v at at' e = absurd (none_some u at)
+  alike_at ks [] bs vs c d h i j u v at at' e = absurd (none-some u at)
   alike_at [] (w ∷ us) bs vs c d h i j u v at at' e = absurd (omega (arith, c))
   alike_at (l ∷ ks) (w ∷ us) bs vs c d h zero j u v at at' e =
-      subst (λ x. are_equal t 0 x v ≡ true) (some_same w u at)
+      subst (λ x. are_equal t 0 x v ≡ true) (same_Some w u at)
       (like_at l w bs vs d (and_parts (are_like t l w bs vs) (all_alike t ks us bs vs) h).0 j v at'
       e)
   alike_at (l ∷ ks) (w ∷ us) bs vs c d h (suc i) j u v at at' e =
@@ -83,8 +82,8 @@ module _ (t : Nodes) where
 -- an element of a list of what a function gives
 mapped_at : {X Y : Type 0} (f : X → Y) (xs : List X) (i : ℕ) (y : Y)
     → slice_get (map f xs) i ≡ Some y → (x : X) × (slice_get xs i ≡ Some x) × (f x ≡ y)
-mapped_at f [] i y e = absurd (none_some y e)
-mapped_at f (x ∷ xs) zero y e = (x, refl, some_same (f x) y e)
+mapped_at f [] i y e = absurd (none-some y e)
+mapped_at f (x ∷ xs) zero y e = (x, refl, same_Some (f x) y e)
 mapped_at f (x ∷ xs) (suc i) y e = mapped_at f xs i y e
 
 module _ (t : Nodes) (values : List Value) (b : List ℕ) where

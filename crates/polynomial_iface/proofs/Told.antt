@@ -3,13 +3,14 @@ use Rattle.std.proofs.Common.{◌≡◌, ◌+◌, ◌<◌, ◌==◌, ℕ, zero, 
 use Rattle.std.specs.Prelude.{nat_le}
 use Rattle.std.proofs.lemmas.Bool.{eq-eqb}
 use Rattle.std.proofs.lemmas.Bool.Decides.{nat_tests}
+use Rattle.std.proofs.lemmas.List.{length-map}
 use Rattle.modalities.specs.declared.three.Three.{Three}
 use Rattle.iface.specs.Trits.{AreTrits, each, picked, in_coarse}
 use Rattle.polynomial_iface.specs.declared.weight.Form.{Form}
 use Rattle.polynomial_iface.specs.declared.weight.PolyWeight.{PolyWeight}
 use Rattle.polynomial_iface.specs.Polys.{arity, numbers_from, fits_form, value_of_form, toward_of_form}
 use Rattle.polynomial_iface.specs.Places.{trits_from, head_is, after_place}
-use Rattle.polynomial_iface.specs.PolyLaws.{length-numbers_from, length-map}
+use Rattle.polynomial_iface.specs.PolyLaws.{length-numbers_from}
 
 -- no place below the first is among those picked
 not_head :
@@ -63,7 +64,7 @@ module _
 
   pub marks_count : length weight.marks ≡ arity weight.form
   marks_count =
-      ap (λ (w : PolyWeight). length w.marks) weight_is ∙ length-map (λ t. nat_le 1 t) ts
+      ap (λ (w : PolyWeight). length w.marks) weight_is ∙ length-map ts (λ t. nat_le 1 t)
       ∙ count_is ∙ ap arity (sym form_is)
 
   pub told : trits_from weight.marks 0 moved ≡ ts

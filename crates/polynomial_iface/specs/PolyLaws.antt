@@ -5,6 +5,7 @@
 use Rattle.std.specs.Prelude.{◌≡◌, ◌+◌, ℕ, zero, suc, List, [], ◌∷◌, map, length, refl}
 use Rattle.std.proofs.Common.{sym, ◌∙◌, ap, arith}
 use Rattle.std.proofs.lemmas.Bool.Decides.{nat_tests}
+use Rattle.std.proofs.lemmas.List.{length-map}
 use Rattle.iface.specs.Structures.{IfaceLaws, Classed, IsFitting, joined, three_way}
 use Rattle.iface.specs.Trits.{each}
 use Rattle.polynomial_iface.specs.declared.polys.Polys.{Polys}
@@ -21,10 +22,6 @@ pub length-each :
     {L : Type 0} (t : ℕ) (labels : List L) → length (each t labels) ≡ length labels
 length-each t [] = refl
 length-each t (x ∷ xs) = ap suc (length-each t xs)
-
-pub length-map : {A B : Type 0} (f : A → B) (xs : List A) → length (map f xs) ≡ length xs
-length-map f [] = refl
-length-map f (x ∷ xs) = ap suc (length-map f xs)
 
 one_trit :
     (ts us : List ℕ) → length ts ≡ 1 → length us ≡ 1 → first_trit ts ≡ first_trit us → ts ≡ us
@@ -139,8 +136,8 @@ split_law x y old new fx fy form joined_same same =
     let ys = map (three_way old new) y.classes in
     let same_form : value_of_form x.shape.form xs ≡ value_of_form x.shape.form ys =
     same ∙ ap (λ f. value_of_form f ys) (sym form) in
-    let x_count = length-map (three_way old new) x.classes ∙ as_many x fx in
-    let y_count = length-map (three_way old new) y.classes ∙ as_many y fy ∙ ap arity (sym form) in
+    let x_count = length-map x.classes (three_way old new) ∙ as_many x fx in
+    let y_count = length-map y.classes (three_way old new) ∙ as_many y fy ∙ ap arity (sym form) in
     let trits = value_tells x.shape.form xs ys x_count y_count same_form in
     split_lists old new x.classes y.classes joined_same trits
 

@@ -2,11 +2,8 @@
 use Rattle.std.proofs.Common.{◌≡◌, ℕ, zero, suc, ◌+◌, ◌<◌, append-nil, List, [], ◌∷◌, ◌++◌, length, map, take, slice_get, Some, None, is_some, true≢false, add-one, arith, refl, ap, sym, ◌∙◌, append_assoc}
 use Rattle.std.specs.Prelude.{unwrap_or, slice_index}
 use Rattle.std.proofs.lemmas.List.{get_or-map, length-map}
+use Rattle.std.proofs.lemmas.Option.{none-some}
 use Rattle.quotient_writer.specs.Blocks.{block_line, block_lines, name_of, first_state, first_states}
-
--- nothing is no item
-nothing : {A : Type 0} (x : A) → None ≡ Some x → ⊥
-nothing x e = true≢false (sym (ap is_some e))
 
 -- without classes there is no line
 pub lines-none : (names : List (List ℕ)) → block_lines names [] ≡ []
@@ -19,7 +16,7 @@ lines-more : (f : ℕ → List ℕ) (names : List (List ℕ)) (firsts : List ℕ
     → slice_get names i ≡ Some name → i < length firsts
     → block_lines names (map f (take (suc i) firsts))
     ≡ block_lines names (map f (take i firsts)) ++ block_line name (f (slice_index firsts i))
-lines-more f [] firsts i name d h = absurd (nothing name d)
+lines-more f [] firsts i name d h = absurd (none-some name d)
 lines-more f (n ∷ names) [] i name d h = absurd (omega (arith, h))
 lines-more f (n ∷ names) (k ∷ firsts) zero name d h =
     ap (λ rest. block_line n (f k) ++ rest) (lines-none names) ∙ append-nil (block_line n (f k))
@@ -32,7 +29,7 @@ lines-more f (n ∷ names) (k ∷ firsts) (suc i) name d h =
 -- the name of a state that has one
 name-is : (names : List (List ℕ)) (i : ℕ) (name : List ℕ) → slice_get names i ≡ Some name
     → name_of names i ≡ name
-name-is [] i name e = absurd (nothing name e)
+name-is [] i name e = absurd (none-some name e)
 name-is (n ∷ names) zero name e = ap (λ o. unwrap_or o []) e
 name-is (n ∷ names) (suc i) name e = name-is names i name e
 

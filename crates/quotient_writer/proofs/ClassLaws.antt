@@ -5,12 +5,12 @@ use Rattle.std.specs.List.{list_all}
 use Rattle.std.proofs.lemmas.Bool.{eqb-true}
 use Rattle.std.proofs.lemmas.Cmp.{nat_eq_equiv}
 use Rattle.std.proofs.lemmas.List.{length-map, get_or-map}
-use Rattle.std.proofs.lemmas.Option.{get_or_from_slice_get}
+use Rattle.std.proofs.lemmas.Option.{get_or_from_slice_get, slice_get_within}
 use Rattle.functor_terms.specs.Terms.{Nodes}
 use Rattle.typing.specs.declared.value.Value.{Value}
 use Rattle.typing.specs.Values.{states_below}
 use Rattle.typing.specs.Stable.{IsStable, IsFirst, Refines, AreEquivalent}
-use Rattle.typing.proofs.FirstPlaces.{first_passes, get_within}
+use Rattle.typing.proofs.FirstPlaces.{first_passes}
 use Rattle.typing.proofs.Coarser.{eq-coarser}
 use Rattle.typing.proofs.RelabelSteps.{got}
 use Rattle.typing.proofs.StableLaws.{each_of}
@@ -74,8 +74,8 @@ module _ (t : Nodes) (values : List Value) (firsts : List ℕ) (stable : IsStabl
     labels-stable within = record {
       covers = count;
       equal = λ i j u v at at' e.
-          let hi : i < length labels = omega (arith, get_within values i u at, count) in
-          let hj : j < length labels = omega (arith, get_within values j v at', count) in
+          let hi : i < length labels = omega (arith, slice_get_within values i u at, count) in
+          let hj : j < length labels = omega (arith, slice_get_within values j v at', count) in
           eq-coarser (length values) firsts labels finer t 0 u v
           (each_of (states_below (length values)) values within i u at)
           (each_of (states_below (length values)) values within j v at')

@@ -5,13 +5,11 @@ use Rattle.std.proofs.lemmas.Bool.{and_from, lt-ltb}
 use Rattle.std.proofs.lemmas.Cmp.{nat_eq_equiv}
 use Rattle.std.proofs.lemmas.List.{length-map, get_or-map, get_or_append_left, get_or-append-add}
 use Rattle.std.proofs.lemmas.List.Sums.{position_or_len_is}
+use Rattle.std.proofs.lemmas.Option.{same_Some}
 use Rattle.quotient_writer.specs.Quotient.{numbers_from, is_numbered}
 use Rattle.quotient_writer.specs.Blocks.{AreFirsts, first_state, first_states}
 use Rattle.quotient_writer.proofs.Picks.{not_chosen, length-push}
 use Rattle.quotient_writer.proofs.Classes.{last_case}
-
-some_same : {X : Type 0} (x y : X) → Some x ≡ Some y → x ≡ y
-some_same x y e = cc
 
 same_lists : (xs ys : List ℕ) → length xs ≡ length ys
     → ((k : ℕ) → k < length ys → slice_index xs k ≡ slice_index ys k) → xs ≡ ys

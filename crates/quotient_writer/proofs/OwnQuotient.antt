@@ -4,12 +4,12 @@ use Rattle.std.specs.Prelude.{◌==◌, nat_lt, slice_index, if◌then◌else◌
 use Rattle.std.specs.List.{list_all}
 use Rattle.std.proofs.lemmas.Bool.{and_parts, ltb-true, eqb-true}
 use Rattle.std.proofs.lemmas.List.{length-append, get_or_append_left, get_or-append-add}
+use Rattle.std.proofs.lemmas.Option.{same_Some, slice_get_within}
 use Rattle.functor_terms.specs.Terms.{Nodes}
 use Rattle.typing.specs.declared.value.Value.{Value}
 use Rattle.typing.specs.Values.{states_below}
 use Rattle.typing.specs.Equality.{are_equal}
 use Rattle.typing.proofs.EqualityLaws.{eq-equivalence}
-use Rattle.typing.proofs.FirstPlaces.{get_within}
 use Rattle.typing.proofs.StableLaws.{each_of}
 use Rattle.quotient_writer.specs.Quotient.{numbers_from, picked_from, IsQuotient}
 use Rattle.quotient_writer.specs.Laws.{AreLabelled, AreWellFormed, AreApart}
@@ -25,9 +25,6 @@ count-push : (k m : ℕ) → count_from k m ++ (k + m) ∷ [] ≡ count_from k (
 count-push k zero = ap (λ n. n ∷ []) (let e : k + 0 ≡ k = omega arith in e)
 count-push k (suc m) = ap (λ l. k ∷ l) (ap (λ n. count_from (suc k) m ++ n ∷ []) (let e : k + suc m
     ≡ suc k + m = omega arith in e) ∙ count-push (suc k) m)
-
-some_same : {X : Type 0} (x y : X) → Some x ≡ Some y → x ≡ y
-some_same x y e = cc
 
 -- numbered labels of which no two are the same count the states
 counts : (n : ℕ) (b : List ℕ) → numbers_from n b ≡ true → AreApart (count_from 0 n ++ b)
@@ -88,8 +85,8 @@ module _ (t : Nodes) (names : List (List ℕ)) (values : List Value) (b : List �
     normal = well.normal;
     in_range = subst (λ n. list_all (states_below n) values ≡ true) l.one_each well.in_range;
     equal = λ i u v at at'.
-        let below : i < length b = omega (arith, get_within values i u at, l.one_each, l.covers) in
-        let same : u ≡ v = some_same u v (sym at ∙ ap (slice_get values) (sym (itself i below))
+        let below : i < length b = omega (arith, slice_get_within values i u at, l.one_each, l.covers) in
+        let same : u ≡ v = same_Some u v (sym at ∙ ap (slice_get values) (sym (itself i below))
         ∙ at') in
         let inside : states_below (length b) u ≡ true = subst (λ n. states_below n u ≡ true)
         (l.one_each ∙ sym l.covers) (each_of (states_below (length values)) values well.in_range

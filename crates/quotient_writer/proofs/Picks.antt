@@ -5,6 +5,7 @@ use Rattle.std.specs.List.{list_all, list_any, AllZip, AllByRecursion, IsDistinc
 use Rattle.std.proofs.lemmas.Bool.{and_parts, and_from, eqb-true, lt-ltb, ltb-true}
 use Rattle.std.proofs.lemmas.Cmp.{nat_eq_equiv}
 use Rattle.std.specs.Cmp.Lexicographic.{lists_equiv}
+use Rattle.std.proofs.lemmas.Option.{none-some, same_Some}
 use Rattle.functor_terms.specs.Words.{is_same_word, place_of}
 use Rattle.functor_terms.proofs.WordLemmas.{place-any}
 use Rattle.functor_terms.specs.Terms.{Nodes}
@@ -20,17 +21,11 @@ use Rattle.typing.specs.declared.value.Value.{Value}
 abbrev pub AreDistinct : List (List ℕ) → Type 0
 AreDistinct = IsDistinct is_same_word
 
-none_some : {X : Type 0} (x : X) → None ≡ Some x → ⊥
-none_some x e = cc
-
-some_same : {X : Type 0} (x y : X) → Some x ≡ Some y → x ≡ y
-some_same x y e = cc
-
 -- an element and what follows it
 pub drop_at : {X : Type 0} (xs : List X) (i : ℕ) (x : X) → slice_get xs i ≡ Some x
     → drop i xs ≡ x ∷ drop (i + 1) xs
-drop_at [] i x e = absurd (none_some x e)
-drop_at (y ∷ xs) zero x e = ap (λ z. z ∷ xs) (some_same y x e)
+drop_at [] i x e = absurd (none-some x e)
+drop_at (y ∷ xs) zero x e = ap (λ z. z ∷ xs) (same_Some y x e)
 drop_at (y ∷ xs) (suc i) x e = drop_at xs i x e
     ∙ ap (λ n. x ∷ drop n (y ∷ xs)) (let e : suc (i + 1) ≡ suc i + 1 = omega arith in e)
 

@@ -4,7 +4,7 @@ use Rattle.std.specs.Prelude.{nat_lt, slice_index, ◌==◌, if◌then◌else◌
 use Rattle.std.specs.List.{list_all, AllZip}
 use Rattle.std.proofs.lemmas.Bool.{ltb-true, eqb-true}
 use Rattle.std.proofs.lemmas.List.{length-map, get_or-map}
-use Rattle.std.proofs.lemmas.Option.{get_or_from_slice_get}
+use Rattle.std.proofs.lemmas.Option.{get_or_from_slice_get, none-some, same_Some, slice_get_within}
 use Rattle.functor_terms.specs.Terms.{Nodes}
 use Rattle.typing.specs.declared.value.Value.{Value}
 use Rattle.typing.specs.Values.{relabelled, states_below}
@@ -16,23 +16,16 @@ use Rattle.typing.specs.NormalForms.{IsRelabelledAt}
 use Rattle.typing.proofs.EqualityLaws.{eq-equivalence}
 use Rattle.typing.proofs.NormalLaws.{normal_unique}
 use Rattle.typing.proofs.StableLaws.{element, each_of}
-use Rattle.typing.proofs.FirstPlaces.{get_within}
 use Rattle.quotient_writer.specs.Quotient.{numbers_from, picked_from, picked, IsQuotient}
 use Rattle.quotient_writer.proofs.Picks.{numbers_below, end-one_each, end-fitting, end-normal, end-in_range}
 use Rattle.quotient_writer.proofs.Composed.{through, moved, equal-moved}
-
-none_some : {X : Type 0} (x : X) → None ≡ Some x → ⊥
-none_some x e = cc
-
-some_same : {X : Type 0} (x y : X) → Some x ≡ Some y → x ≡ y
-some_same x y e = cc
 
 -- what is picked stands at a state of its class
 pub picked_at : {X : Type 0} (n : ℕ) (b : List ℕ) (xs : List X) (p : ℕ) (x : X)
     → slice_get (picked_from n b xs) p ≡ Some x
     → (j : ℕ) × (slice_get b j ≡ Some (n + p)) × (slice_get xs j ≡ Some x)
-picked_at n [] xs p x e = absurd (none_some x e)
-picked_at n (k ∷ b) [] p x e = absurd (none_some x e)
+picked_at n [] xs p x e = absurd (none-some x e)
+picked_at n (k ∷ b) [] p x e = absurd (none-some x e)
 picked_at n (k ∷ b) (y ∷ xs) p x e = by (k == n) refl p e (λ q g. picked_at (suc n) b xs q x g)
     (λ q g. picked_at n b xs q x g)
   where
@@ -56,10 +49,10 @@ picked_at n (k ∷ b) (y ∷ xs) p x e = by (k == n) refl p e (λ q g. picked_at
 -- the pair at a place
 zip_at : (R : Value → Value → Type 0) (vs rs : List Value) (k : ℕ) (r : Value) → AllZip R vs rs
     → slice_get rs k ≡ Some r → (v : Value) × (slice_get vs k ≡ Some v) × R v r
-zip_at R [] [] k r z e = absurd (none_some r e)
+zip_at R [] [] k r z e = absurd (none-some r e)
 zip_at R [] (s ∷ rs) k r z e = absurd z
 zip_at R (v ∷ vs) [] k r z e = absurd z
-zip_at R (v ∷ vs) (s ∷ rs) zero r z e = (v, refl, subst (R v) (some_same s r e) z.0)
+zip_at R (v ∷ vs) (s ∷ rs) zero r z e = (v, refl, subst (R v) (same_Some s r e) z.0)
 zip_at R (v ∷ vs) (s ∷ rs) (suc k) r z e = zip_at R vs rs k r z.1 e
 
 same_lists : {X : Type 0} (xs ys : List X) → length xs ≡ length ys
@@ -105,7 +98,7 @@ module _ (t : Nodes) (names : List (List ℕ)) (values : List Value) (b : List �
         let (x, at) = element (picked b names) k (subst (λ (l : List (List ℕ)). k < length l) e h) in
         let (j, label, here) = picked_at 0 b names k x at in (
           j,
-          (let w : j < length values = omega (arith, get_within names j x here, one_each) in
+          (let w : j < length values = omega (arith, slice_get_within names j x here, one_each) in
               w),
           index_of b j (0 + k) label ∙ omega arith,
         )
@@ -119,7 +112,7 @@ module _ (t : Nodes) (names : List (List ℕ)) (values : List Value) (b : List �
           same,
           same_lists vs vs' (q.one_each ∙ ap length same ∙ sym q'.one_each) (λ k v v' at at'.
               let (j, inside, label) = state_of ns k q.first_names
-              (omega (arith, get_within vs k v at, q.one_each)) in
+              (omega (arith, slice_get_within vs k v at, q.one_each)) in
               let (u, here) = element values j inside in
               let is = eq-equivalence t 0 in
               let x = q.equal j u v here (subst (λ n. slice_get vs n ≡ Some v) (sym label) at) in
@@ -148,8 +141,8 @@ module _ (t : Nodes) (names : List (List ℕ)) (values : List Value) (b : List �
       pulled_back s stable = record {
         covers = rw length-map (covers ∙ sym one_each);
         equal = λ i j u v at at' e.
-            let hi : i < length b = omega (arith, covers, one_each, get_within values i u at) in
-            let hj : j < length b = omega (arith, covers, one_each, get_within values j v at') in
+            let hi : i < length b = omega (arith, covers, one_each, slice_get_within values i u at) in
+            let hj : j < length b = omega (arith, covers, one_each, slice_get_within values j v at') in
             let (d, at_d) = element vs (slice_index b i) (label_inside i hi) in
             let (f, at_f) = element vs (slice_index b j) (label_inside j hj) in
             let same : slice_index s (slice_index b i) ≡ slice_index s (slice_index b j) =

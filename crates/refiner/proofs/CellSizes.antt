@@ -3,7 +3,7 @@ use Rattle.std.proofs.Common.{◌≡◌, ◌≢◌, ◌+◌, ◌<◌, ◌≤◌,
 use Rattle.std.specs.Prelude.{All, AllPairs}
 use Rattle.std.proofs.lemmas.Bool.{cases_eq, eq-eqb, ne_eqb}
 use Rattle.std.proofs.lemmas.Bool.Decides.{nat_tests}
-use Rattle.std.proofs.lemmas.List.{length-set, length_push, get_or-set_same, get_or-set_other, get_or_append_left, get_or_push}
+use Rattle.std.proofs.lemmas.List.{length-set, length_push, get_or-set_same, get_or-set_other, get_or_append_left, get_or_push, length-map}
 use Rattle.std.proofs.lemmas.List.Sums.{sum_by-set}
 use Rattle.edge_store.specs.declared.edge.Edge.{Edge}
 use Rattle.edge_store.specs.Edges.{sources_of, labels_of, labels_from, chosen}
@@ -11,7 +11,6 @@ use Rattle.refinable_partition.specs.Blocks.{size_in}
 use Rattle.refinable_partition.specs.Layout.{AreMoved as HaveLeft}
 use Rattle.refiner.specs.Cells.{AreCounted, IsParted}
 use Rattle.refiner.proofs.CoarseSizes.{size_none}
-use Rattle.refiner.proofs.Keeps.{length-map}
 use Rattle.refiner.proofs.Sizes.{size_yes, size_no}
 
 -- some edges of a cell, each listed once, are at most as many as the cell has
@@ -171,7 +170,7 @@ pub edges_many : {Label : Type 0} (edges : List (Edge Label)) (x : ℕ) →
     length (labels_from edges x) ≡ size_in (sources_of edges) x
 edges_many edges x =
     chosen_many x (sources_of edges) (labels_of edges)
-    (length-map (λ (e : Edge _). e.source) edges ∙ sym (length-map (λ (e : Edge _). e.label) edges))
+    (length-map edges (λ (e : Edge _). e.source) ∙ sym (length-map edges (λ (e : Edge _). e.label)))
 
 -- the number of one state more
 pub counts_more :

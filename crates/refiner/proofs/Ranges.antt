@@ -1,7 +1,7 @@
 -- Rounds, splits and parts in arrays that grow at their ends.
 use Rattle.std.proofs.Common.{◌≡◌, ◌-◌, ◌<◌, ◌≤◌, ◌∙◌, ℕ, List, [], ◌∷◌, ◌++◌, Some, length, length-append, get_or, take, drop, map, refl, ap, arith}
 use Rattle.std.specs.Prelude.{All, slice_get, slice_range, option_map}
-use Rattle.std.proofs.lemmas.List.{drop-append-le, take-append-le, map-append, length-drop}
+use Rattle.std.proofs.lemmas.List.{drop-append-le, take-append-le, map-append, length-drop, length-map, take_all}
 use Rattle.std.proofs.lemmas.List.Elements.{All-head, All-tail, All-take, All-drop}
 use Rattle.std.proofs.lemmas.Option.{slice_get-map, slice_get-get_or}
 use Rattle.std.proofs.Math.Seq.{drop-append_seam}
@@ -10,7 +10,6 @@ use Rattle.refiner.specs.declared.rows.SplitRow.{SplitRow}
 use Rattle.refiner.specs.declared.rows.RoundRow.{RoundRow}
 use Rattle.refiner.specs.Recorded.{Split, round_with}
 use Rattle.refiner.specs.Flat.{split_of, round_of, LiesWithin, AreOfParts}
-use Rattle.refiner.proofs.Keeps.{length-map}
 
 -- a range within a list, where something is added to the list
 pub range_kept : {X : Type 0} (from to : ℕ) (xs ys : List X) → LiesWithin (length xs) from to →
@@ -20,17 +19,12 @@ range_kept from to xs ys within =
     ∙ take-append-le (to - from) (drop from xs) ys
     (omega (arith, within.0, within.1, length-drop from xs))
 
--- all of a list is its first elements, as many as it has
-pub take_all : {X : Type 0} (xs : List X) → take (length xs) xs ≡ xs
-take_all [] = refl
-take_all (x ∷ xs) = ap (λ ys. x ∷ ys) (take_all xs)
-
 -- the range of what is added
 pub range_added : {X : Type 0} (from to : ℕ) (xs ys : List X) → from ≡ length xs →
     to ≡ length (xs ++ ys) → slice_range (xs ++ ys) from to ≡ ys
 range_added from to xs ys begins ends =
     let many : to - from ≡ length ys = omega (arith, begins, ends, length-append xs ys) in
-    rw (many, begins, drop-append_seam xs ys) (take_all ys)
+    rw (many, begins, drop-append_seam xs ys) (take_all (length ys) ys (omega arith))
 
 -- two functions that are one on all of a list
 pub map_all : {X Y : Type 0} (P : X → Type 0) (f g : X → Y) → ((x : X) → P x → f x ≡ g x) →
@@ -91,4 +85,4 @@ pub map_at : {X Y : Type 0} (f : X → Y) (xs : List X) (k : ℕ) (d : X) → k 
     slice_get (map f xs) k ≡ Some (f (get_or xs k d))
 map_at f xs k d h =
     slice_get-map f xs k
-    ∙ ap (option_map f) (slice_get-get_or xs k d (omega (arith, h, length-map f xs)))
+    ∙ ap (option_map f) (slice_get-get_or xs k d (omega (arith, h, length-map xs f)))

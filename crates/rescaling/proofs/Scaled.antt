@@ -19,12 +19,9 @@ use Rattle.fitting.specs.Scaling.{Scale, no_scale, scale_at, scaled_weight, scal
 use Rattle.fitting.proofs.FitSound.{scaled-suc}
 use Rattle.rescaling.specs.Rescaled.{Rescale, no_rescale, rescale_at, rescaled_places, rescaled_parts, rescaled_weight, rescaled_entries, rescaled_level, rescaled_step, rescaled}
 use Rattle.rescaling.proofs.Levels.{by_child}
+use Rattle.fitting.proofs.ScaledFractions.{negative-times}
 
 -- ---- weights
-
-negative-times : (x c : ℕ) → neg_ℤ (pos x) *ℤ pos c ≡ neg_ℤ (pos (x * c))
-negative-times zero c = rw (zero-mul c) refl
-negative-times (suc x) c = refl
 
 -- two factors one after the other
 times-times : (z : ℤ) (b c : ℕ) → z *ℤ pos b *ℤ pos c ≡ z *ℤ pos (b * c)

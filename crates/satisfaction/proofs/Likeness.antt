@@ -41,6 +41,7 @@ use Rattle.typing.specs.Layers.{Place, at_child, child_places, is_state, is_stat
 use Rattle.formula_checker.specs.LayerValues.{joint_with, layer_value}
 use Rattle.satisfaction.specs.Satisfaction.{layers_of, holds_in}
 use Rattle.satisfaction.proofs.Layer.{same_test, child_cases, through_child, joint_none, trits_pointwise, occurs, joint_same}
+use Rattle.typing.proofs.Coarser.{weight_of-moved}
 
 -- a test of relabelled values, place by place
 pointwise_map :
@@ -68,16 +69,6 @@ covered_map e r (u ∷ us) vs = λ i. has_map e r vs u i && covered_map e r us v
 -- the entries with their values relabelled
 abbrev moved : List ℕ → List (Value × ℤ) → List (Value × ℤ)
 moved b es = map (λ w. (relabelled b w.0, w.1)) es
-
--- the total of a relabelled value among them
-weights_map :
-    (e : Test) (b : List ℕ) (ws : List (Value × ℤ)) (a : Value) →
-    weight_of e (moved b ws) (relabelled b a)
-    ≡ weight_of (λ x y. e (relabelled b x) (relabelled b y)) ws a
-weights_map e b [] a = refl
-weights_map e b (w ∷ ws) a =
-    ap (λ k. the_sum (if e (relabelled b w.0) (relabelled b a) then w.1 else pos 0) k)
-    (weights_map e b ws a)
 
 module _
     (t : Nodes) (term : IsTerm t) (d : ℕ) (values : List Value)
@@ -296,10 +287,10 @@ module _
       totals_at q test es fs h a =
           let equal : same_weights (are_equal t q) (moved b es) (moved b fs) ≡ true =
           sym (ap (λ F. same_weights F (moved b es) (moved b fs)) test) ∙ h in
-          sym (weights_map (are_equal t q) b es a)
+          sym (weight_of-moved (are_equal t q) b es a)
           ∙ (same_weights-Decides (are_equal t q) (eq-equivalence t q) (moved b es) (moved b fs)).0
           equal (r a)
-          ∙ weights_map (are_equal t q) b fs a
+          ∙ weight_of-moved (are_equal t q) b fs a
 
       -- the sums of weights with each trit, on the left and on the right
       abbrev left_sum : List (Value × ℤ) → ℕ → ℤ

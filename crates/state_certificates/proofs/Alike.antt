@@ -1,6 +1,6 @@
 -- A sorted state and the structure that it stands for are alike.
 --
--- leaves_are             == edges leave a structure at its children
+-- leaves_within-children             == edges leave a structure at its children
 -- leads                  == an edge and the child that it leads to have one trit
 -- state_of               == the sorted state of an occurrence
 -- standing-likeness      == what a number stands for is alike to it
@@ -30,6 +30,7 @@ use Rattle.formulas.specs.Truth.{IsLikeness}
 use Rattle.formula_checker.specs.LayerValues.{layer_value}
 use Rattle.satisfaction.specs.Satisfaction.{layers_of}
 use Rattle.formula_builder.specs.SortedLayers.{sorted_layers}
+use Rattle.structures.proofs.Leaves.{leaves_within-children}
 
 -- an element of a map, from what it is of and back
 pub map_at :
@@ -50,11 +51,6 @@ map_back f (x ∷ xs) (suc i) y e = map_back f xs i y e
 singles : (xs : List Place) → flat_map (λ y. y ∷ []) xs ≡ xs
 singles [] = refl
 singles (x ∷ xs) = ap (λ ys. x ∷ ys) (singles xs)
-
--- edges leave a structure at its children
-pub leaves_are : (t : Nodes) (n : ℕ) (x : Place) → leaves_within t n x ≡ children_of t x
-leaves_are t zero x = refl
-leaves_are t (suc n) x = singles (children_of t x)
 
 -- the node of a structure's shape
 pub node_of_shape : (m : Node) (p : ℕ) (v : Value) (k : ℕ) → any_node (shapes.shape_of m p v k) ≡ p
@@ -150,7 +146,7 @@ module _
         all_lead (children_of t (o.node, o.value)) o.targets
         (subst (λ (ps : List Place).
         AllZip (λ place y. LeadsBy occurrences roots (node_at t place.0) place y) ps o.targets)
-        (leaves_are t (length t) (o.node, o.value)) (desorted.sorting.linked x o at))
+        (leaves_within-children t (length t) (o.node, o.value)) (desorted.sorting.linked x o at))
 
   -- a sorted state and the structure that it stands for are alike
   pub standing-likeness :

@@ -13,6 +13,8 @@ use Rattle.std.specs.Option.{option_map_or}
 use Rattle.std.proofs.lemmas.Bool.{and_parts, and_from, eq-eqb, eqb-true}
 use Rattle.std.proofs.lemmas.Bool.Decides.{nat_tests}
 use Rattle.std.proofs.lemmas.Option.{slice_get_cases, slice_get-get_or}
+use Rattle.std.proofs.lemmas.Slice.Zip.{AllZip-long}
+use Rattle.std.proofs.lemmas.List.{length-map}
 use Rattle.modalities.specs.declared.three.Three.{Three}
 use Rattle.sorted_systems.specs.Systems.{Sorted, IsState}
 use Rattle.functor_terms.specs.declared.node.Branch.{Branch}
@@ -42,7 +44,9 @@ use Rattle.formula_builder.specs.SortedLayers.{IsShown, BlocksAreTold}
 use Rattle.state_certificates.specs.Certificates.{HaveForms}
 use Rattle.state_certificates.proofs.TermNodes.{node_known}
 use Rattle.state_certificates.proofs.Writable.{value_writable}
-use Rattle.state_certificates.proofs.Alike.{node, value, read, map_at, map_back, leaves_are, node_of_shape}
+use Rattle.state_certificates.proofs.Alike.{node, value, read, map_at, map_back, node_of_shape}
+use Rattle.structures.proofs.Sound.{fits_inside}
+use Rattle.structures.proofs.Leaves.{leaves_within-children}
 
 -- what fits one level
 
@@ -100,15 +104,11 @@ zip_fits t (q ∷ qs) [] h = absurd (true≢false (sym h))
 zip_fits t (q ∷ qs) (v ∷ vs) h =
     ap suc (zip_fits t qs vs (and_parts (fits t q v) (each_fits (map (fits t) qs) vs) h).1)
 
-length-map' : {X Y : Type 0} (f : X → Y) (xs : List X) → length (map f xs) ≡ length xs
-length-map' f [] = refl
-length-map' f (x ∷ xs) = ap suc (length-map' f xs)
-
 child_length : (t : Nodes) (qs : List ℕ) (vs : List Value) →
     list_all (check_at (map (fits t) qs) 0) vs ≡ true → length (at_child qs 0 vs) ≡ length vs
 child_length t [] [] h = refl
 child_length t [] (v ∷ vs) h = absurd (true≢false (sym h))
-child_length t (q ∷ qs) vs h = length-map' (λ u. (q, u)) vs
+child_length t (q ∷ qs) vs h = length-map vs (λ u. (q, u))
 
 trits_test : (g : List ℕ) → All (λ t. t ≤ 2) g → list_all (λ t. nat_le t 2) g ≡ true
 trits_test [] few = refl
@@ -165,13 +165,6 @@ value_form t d Distribution qs p v g h size few = refl
 value_form t d Integers qs p v g h size few = refl
 value_form t d Rationals qs p v g h size few = refl
 
-zip_length : {A B : Type 0} (R : A → B → Type 0) (xs : List A) (ys : List B) → AllZip R xs ys →
-    length xs ≡ length ys
-zip_length R [] [] h = refl
-zip_length R [] (y ∷ ys) h = absurd h
-zip_length R (x ∷ xs) [] h = absurd h
-zip_length R (x ∷ xs) (y ∷ ys) h = ap suc (zip_length R xs ys h.1)
-
 -- nothing fits past the term
 none_within :
     (t : Nodes) (p : ℕ) (v : Value) → slice_get t p ≡ None → (n : ℕ) →
@@ -180,13 +173,6 @@ none_within t p v e zero = refl
 none_within t p v e (suc n) =
     ap (λ (o : Option Branch). option_map_or
     (λ b. fits_step b.node (map (fold_within no_check fits_step t n) b.children)) o no_check v) e
-
--- what fits is at a node of the term
-pub fits_inside : (t : Nodes) (p : ℕ) (v : Value) → fits t p v ≡ true → p < length t
-fits_inside t p v fit = elim (slice_get_cases t p).1 [
-  | inl found ↦ found.1
-  | inr past ↦ absurd (true≢false (sym fit ∙ none_within t p v past.1 (length t)))
-]
 
 -- node 0, and each node that is no State node, passes the test for layer nodes
 layer_test : (t : Nodes) (p : ℕ) → IsLayer t p → is_layer t p ≡ true
@@ -231,10 +217,10 @@ module _
   seen q v shown =
       let (o, at, same) = occurrence_of shown.place shown.state shown.is_state in
       let edges : length (children_of t (o.node, o.value)) ≡ length o.targets =
-      sym (ap (λ (ps : List Place). length ps) (leaves_are t (length t) (o.node, o.value)))
-      ∙ zip_length (λ (place : Place) (y : ℕ).
+      sym (ap (λ (ps : List Place). length ps) (leaves_within-children t (length t) (o.node, o.value)))
+      ∙ sym (AllZip-long (λ (place : Place) (y : ℕ).
       LeadsBy desorted.occurrences (numbers_below (length values)) (node_at t place.0) place y)
-      _ o.targets (desorted.sorting.linked shown.place o at) in
+      _ o.targets (desorted.sorting.linked shown.place o at)) in
       record {
         place = shown.place;
         structure = o;

@@ -34,6 +34,7 @@ use Rattle.formula_builder.specs.SortedLayers.{sorted_layers, BlocksAreTold}
 use Rattle.formula_builder.specs.Certified.{Certified}
 use Rattle.state_certificates.specs.Certificates.{formula_of, StatesAreTold, TellApart}
 use Rattle.state_certificates.proofs.Alike.{node, value, Stands, state_of, standing-likeness}
+use Rattle.structures.proofs.WalkEnds.{number_at}
 
 -- what is told over an interface, shapes and edges
 abbrev pub Told : Certified → Layers → List ℕ → Graph ℕ → Type 0
@@ -42,14 +43,6 @@ Told cert i ss es =
     (node_by (shape_of i.shapes.items) (label_of i.shapes.items i.weights.items) any_node)
     (value_by (shape_of i.shapes.items) (label_of i.shapes.items i.weights.items)
     (any_value i.denominator)) (system_from 0 ss es.edges) cert.dag cert.blocks cert.block_of
-
--- the numbers from a first one, one by one
-number_at : (first n i : ℕ) → i < n → slice_index (numbers_on first n) i ≡ first + i
-number_at first zero i h = absurd (omega arith)
-number_at first (suc n) zero h = omega arith
-number_at first (suc n) (suc i) h =
-    let next : first + 1 + i ≡ first + suc i = omega arith in
-    number_at (first + 1) n i (omega arith) ∙ next
 
 module _
     (c : Content) (s : System) (desorted : IsDesorted c.term c.values c.denominator s)

@@ -6,6 +6,7 @@ use Rattle.std.specs.List.{AllByRecursion}
 use Rattle.std.proofs.lemmas.List.{length-map}
 use Rattle.functor_terms.specs.declared.node.Node.{Node}
 use Rattle.functor_terms.specs.Terms.{Nodes, Part, IsPart, IsTerm, HasLabels, takes, starts, nodes_of, over, placed, node_at, children_at, depth_limit}
+use Rattle.structures.proofs.Arities.{starts-length}
 
 -- a node with so many children, and with labels
 abbrev pub IsKnown : Node → ℕ → Type 0
@@ -17,10 +18,6 @@ AreKnown nodes = AllByRecursion (λ b. IsKnown b.node (length b.children)) nodes
 known-append : (xs ys : Nodes) → AreKnown xs → AreKnown ys → AreKnown (xs ++ ys)
 known-append [] ys a b = b
 known-append (x ∷ xs) ys a b = (a.0, known-append xs ys a.1 b)
-
-starts-length : (n : ℕ) (parts : List Part) → length (starts n parts) ≡ length parts
-starts-length n [] = refl
-starts-length n (x ∷ parts) = ap suc (starts-length (n + length x.0) parts)
 
 known-parts :
     (parts : List Part) → AllByRecursion (λ part. AreKnown part.0) parts → AreKnown (nodes_of parts)

@@ -23,16 +23,13 @@ use Rattle.formulas.specs.Ranges.{IsWritableFraction, AreWritableSums, IsWritabl
 use Rattle.formula_checker.specs.LayerValues.{joint_with, layer_value, members_of}
 use Rattle.satisfaction.specs.Modalities.{is_trit, has_form}
 use Rattle.state_certificates.proofs.TermNodes.{IsKnown}
+use Rattle.typing.proofs.WeightSums.{triangle}
 
 -- labels are from 1 to 65,536
 label_bounds :
     (labels : LabelSet) → AreLabels labels → (0 < label_count labels) × (label_count labels ≤ 65536)
 label_bounds (Listed words) h = (h.1, h.2)
 label_bounds (Below n) h = (h.0, h.1)
-
--- a sum is no larger than its parts
-triangle : (a b : ℤ) → unsigned_abs (a +ℤ b) ≤ unsigned_abs a + unsigned_abs b
-triangle a b = omega (arith, ints)
 
 -- the joint weight of a trit is no larger than all weights
 joint_small :

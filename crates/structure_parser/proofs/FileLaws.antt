@@ -1,6 +1,7 @@
 -- A file has one reading or one fault at most, and not both.
 use Rattle.std.proofs.Common.{◌≡◌, ℕ, List, [], ◌∷◌, Some, None, refl, sym, ap, ◌∙◌, subst, inl, inr}
 use Rattle.std.specs.List.{AllZip}
+use Rattle.std.proofs.lemmas.Option.{none-some, same_Some}
 use Rattle.file_cut.specs.Lines.{Numbered, lines_of}
 use Rattle.functor_terms.specs.Terms.{Nodes}
 use Rattle.functor_terms.specs.Grammar.{SpellsTerm, OneTerm}
@@ -26,12 +27,6 @@ rest-same lines x y xs ys a b = cc
 
 not-empty : {X : Type 0} (lines : List X) (x : X) (xs : List X) → lines ≡ [] → lines ≡ x ∷ xs → ⊥
 not-empty lines x xs a b = cc
-
-none_some : {X : Type 0} (x : X) → None ≡ Some x → ⊥
-none_some x e = cc
-
-some_same : {X : Type 0} (x y : X) → Some x ≡ Some y → x ≡ y
-some_same x y e = cc
 
 module _ (one_term : OneTerm) (bytes : List ℕ) where
   -- a file has one term
@@ -68,7 +63,7 @@ module _ (one_term : OneTerm) (bytes : List ℕ) where
   no-grammar n t rows (inr (inr (functor, others, is, u, spelled, bad))) a =
       let rest : a.others ≡ others =
       rest-same (lines_of bytes) a.functor functor a.others others a.lines is in
-      none_some n (sym (rows-good a.others rows a.each).0 ∙ ap first_bad rest
+      none-some n (sym (rows-good a.others rows a.each).0 ∙ ap first_bad rest
       ∙ bad-complete others n bad)
 
   -- and one line is the first at fault
@@ -97,7 +92,7 @@ module _ (one_term : OneTerm) (bytes : List ℕ) where
   same-grammar m n (inr (inr (a, xs, is, t, spelled, bad)))
       (inr (inr (b, ys, is', u, spelled', bad'))) =
       let rest : xs ≡ ys = rest-same (lines_of bytes) a b xs ys is is' in
-      some_same m n (sym (bad-complete xs m bad) ∙ ap first_bad rest ∙ bad-complete ys n bad')
+      same_Some m n (sym (bad-complete xs m bad) ∙ ap first_bad rest ∙ bad-complete ys n bad')
 
 -- the fault that an outcome is
 fault_of : Outcome → Fault

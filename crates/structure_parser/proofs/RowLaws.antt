@@ -2,6 +2,7 @@
 use Rattle.std.proofs.Common.{◌≡◌, ℕ, List, [], ◌∷◌, ◌++◌, Option, Some, None, refl, sym, ap, ◌∙◌, subst, append-nil}
 use Rattle.std.specs.Prelude.{option_map}
 use Rattle.std.specs.List.{AllZip}
+use Rattle.std.proofs.lemmas.Option.{none-some, same_Some}
 use Rattle.file_cut.specs.Lines.{Numbered}
 use Rattle.file_cut.specs.Tokens.{marks}
 use Rattle.file_cut.specs.Trees.{SpellsWithin, SpellsLine, open_limit}
@@ -13,25 +14,19 @@ use Rattle.file_cut.proofs.TreeLaws.{tree-complete, whole-spelled}
 use Rattle.structure_parser.specs.Rows.{Row, row, IsRowOf, IsBad, IsFirstBad}
 use Rattle.structure_parser.specs.Reading.{at_end, behind_head, row_at, row_of, behind_row, rows_in, bad_first, first_bad}
 
-none_some : {X : Type 0} (x : X) → None ≡ Some x → ⊥
-none_some x e = cc
-
-some_same : {X : Type 0} (x y : X) → Some x ≡ Some y → x ≡ y
-some_same x y e = cc
-
 mapped_some : {X Y : Type 0} (f : X → Y) (o : Option X) (y : Y) → option_map f o ≡ Some y →
     (x : X) × (o ≡ Some x) × (f x ≡ y)
-mapped_some f None y e = absurd (none_some y e)
-mapped_some f (Some x) y e = (x, refl, some_same (f x) y e)
+mapped_some f None y e = absurd (none-some y e)
+mapped_some f (Some x) y e = (x, refl, same_Some (f x) y e)
 
 -- a tree at the end of the tokens is what they spell
 ended : (ts : List Mark) (t : Tree) (r : Option (Tree × List Mark)) → tree_at open_limit ts ≡ r →
     at_end r ≡ Some t → SpellsWithin open_limit ts t
-ended ts t None e h = absurd (none_some t h)
+ended ts t None e h = absurd (none-some t h)
 ended ts t (Some (u, [])) e h =
-    subst (λ (v : Tree). SpellsWithin open_limit ts v) (some_same u t h)
+    subst (λ (v : Tree). SpellsWithin open_limit ts v) (same_Some u t h)
     (whole-spelled open_limit ts u [] e refl)
-ended ts t (Some (u, m ∷ rest)) e h = absurd (none_some t h)
+ended ts t (Some (u, m ∷ rest)) e h = absurd (none-some t h)
 
 -- what is read as a row is one
 pub row-sound : (line : Numbered) (r : Row) → row_of line ≡ Some r → IsRowOf line r
@@ -47,11 +42,11 @@ row-sound line r e = by (marks line.text) refl e
         ended ts t (tree_at open_limit ts) refl read in
         subst (λ (q : Row). IsRowOf line q) same
         (record { number = refl; spelled = (ts, is, spelled) })
-    colon head _ is e = absurd (none_some r e)
+    colon head _ is e = absurd (none-some r e)
 
     by : (ts : List Mark) → marks line.text ≡ ts → row_at line.number ts ≡ Some r → IsRowOf line r
     by (Word head ∷ ts) is e = colon head ts is e
-    by _ is e = absurd (none_some r e)
+    by _ is e = absurd (none-some r e)
 
 -- and what a line spells is read
 pub row-complete : (line : Numbered) (head : List ℕ) (t : Tree) → SpellsLine line.text head t →
@@ -73,7 +68,7 @@ row-none line bad = by (row_of line) refl
 -- a line that is read as none is bad
 pub none-bad : (line : Numbered) → row_of line ≡ None → IsBad line
 none-bad line e head t spelled =
-    none_some (row line.number head t) (sym e ∙ row-complete line head t spelled)
+    none-some (row line.number head t) (sym e ∙ row-complete line head t spelled)
 
 -- what is read is the one row that the line spells
 pub row-is : (line : Numbered) (r : Row) → IsRowOf line r → row_of line ≡ Some r
@@ -90,7 +85,7 @@ good-rest line lines e = by (row_of line) refl e
   where
     by : (o : Option Row) → row_of line ≡ o → bad_first line.number (first_bad lines) o ≡ None →
         (r : Row) × (row_of line ≡ Some r) × (first_bad lines ≡ None)
-    by None is e = absurd (none_some line.number (sym e))
+    by None is e = absurd (none-some line.number (sym e))
     by (Some r) is e = (r, is, e)
 
 -- the rows of lines of which the first is a row
@@ -130,7 +125,7 @@ rows-good (line ∷ lines) (r ∷ rows) all =
 
 -- the first bad line, with the rows before it
 pub bad-sound : (lines : List Numbered) (n : ℕ) → first_bad lines ≡ Some n → IsFirstBad lines n
-bad-sound [] n e = absurd (none_some n e)
+bad-sound [] n e = absurd (none-some n e)
 bad-sound (line ∷ lines) n e = by (row_of line) refl (bad-sound lines n) e
   where
     by : (o : Option Row) → row_of line ≡ o →
@@ -144,7 +139,7 @@ bad-sound (line ∷ lines) n e = by (row_of line) refl (bad-sound lines n) e
       rows = [];
       each = tt;
       spells_none = none-bad line is;
-      number = sym (some_same line.number n e);
+      number = sym (same_Some line.number n e);
     }
     by (Some r) is rest e =
         let w = rest e in

@@ -3,6 +3,9 @@ use Rattle.std.proofs.Common.{◌≡◌, ℕ, zero, suc, ◌+◌, ◌-◌, Bool,
 use Rattle.std.specs.Prelude.{◌==◌, ◌||◌, if◌then◌else◌, nat_le, slice_set, drop, option_and_then}
 use Rattle.std.specs.Option.{option_map_or}
 use Rattle.std.specs.List.{list_all, list_any, AllZip}
+use Rattle.std.proofs.lemmas.Bool.{or_parts, both_ways}
+use Rattle.std.proofs.lemmas.Option.{none-some, same_Some}
+use Rattle.std.proofs.lemmas.Slice.Zip.{AllZip-long}
 use Rattle.file_cut.specs.declared.tree.Tree.{Tree}
 use Rattle.file_cut.specs.declared.tree.Entry.{Entry}
 use Rattle.functor_terms.specs.declared.node.Node.{Node}
@@ -25,10 +28,7 @@ use Rattle.fitting.specs.Fitting.{Found, Fit, needs, demands, found, made, each,
 use Rattle.fitting.specs.Scaling.{is_over, over_step, over_bound}
 use Rattle.fitting.proofs.Inversions.{ok_same, err_ok, needs-ok, demands-ok, found-ok, made-ok}
 use Rattle.structure_writer.specs.Spelled.{fraction_if, fraction_spelled, free_number, free_weight, free_entry, free_entries, free_weights, free_step, free_fitting}
-
-or_false : (a b : Bool) → (a || b) ≡ false → (a ≡ false) × (b ≡ false)
-or_false true b h = absurd (true≢false h)
-or_false false b h = (refl, h)
+use Rattle.fitting.proofs.FitSound.{over_out}
 
 -- a test of images
 list_any-map : {X Y : Type 0} (test : Y → Bool) (f : X → Y) (xs : List X)
@@ -101,12 +101,6 @@ weight_free m (Some u) c e h =
 
 -- ---- nodes
 
-over_out : (f : Fitted) (x : Fitted-F Fitted) → out-Fitted f ≡ x
-    → over_bound f ≡ over_step (map-Fitted Fitted Bool over_bound x)
-over_out f x e =
-    fold_out-Fitted Bool over_step f
-    ∙ ap (λ (y : Fitted-F Fitted). over_step (map-Fitted Fitted Bool over_bound y)) e
-
 -- some of them is over its bound
 abbrev some_over : List Fitted → Bool
 some_over fs = list_any (λ b. b) (map over_bound fs)
@@ -129,12 +123,6 @@ at_freed (g ∷ gs) (h ∷ hs) k z = by (k == 0) (at_freed gs hs (k - 1) z.1)
     by true later = z.0
     by false later = later
 
-same_count : (gs hs : List Fit) → AllZip IsFreed gs hs → length gs ≡ length hs
-same_count [] [] z = refl
-same_count [] (h ∷ hs) z = absurd z
-same_count (g ∷ gs) [] z = absurd z
-same_count (g ∷ gs) (h ∷ hs) z = ap suc (same_count gs hs z.1)
-
 -- elements in order
 each_freed : {A B : Type 0} (g h : A → Found B) (P : B → Bool)
     → ((x : A) (y : B) → g x ≡ Ok y → P y ≡ false → h x ≡ Ok y) → (xs : List A) (ys : List B)
@@ -143,7 +131,7 @@ each_freed g h P free [] ys e over = e
 each_freed {B = B} g h P free (x ∷ xs) ys e over =
     let (y, e1, f1) = found-ok (g x) (λ y. made (λ ys. y ∷ ys) (each g xs)) ys e in
     let (zs, e2, is) = made-ok (λ (zs : List B). y ∷ zs) (each g xs) ys f1 in
-    let p = or_false (P y) (list_any P zs)
+    let p = or_parts (P y) (list_any P zs)
     (ap (λ (l : List B). list_any P l) is ∙ over) in
     (λ i. found (free x y e1 p.0 i)
     (λ y. made (λ ys. y ∷ ys) (each_freed g h P free xs zs e2 p.1 i)))
@@ -156,7 +144,7 @@ places_freed gs hs z k (u ∷ us) fs e over =
     let (f, e1, f1) =
     found-ok (fit_at gs k u) (λ v. made (λ vs. v ∷ vs) (places gs (k + 1) us)) fs e in
     let (rest, e2, is) = made-ok (λ (vs : List Fitted). f ∷ vs) (places gs (k + 1) us) fs f1 in
-    let p = or_false (over_bound f) (some_over rest)
+    let p = or_parts (over_bound f) (some_over rest)
     (ap (λ (l : List Fitted). some_over l) is ∙ over) in
     (λ i. found ((at_freed gs hs k z).freed u f e1 p.0 i)
     (λ v. made (λ vs. v ∷ vs) (places_freed gs hs z (k + 1) us rest e2 p.1 i)))
@@ -168,18 +156,15 @@ places_freed gs hs z k (u ∷ us) fs e over =
 abbrev slot_over : Option Fitted → Bool
 slot_over o = option_map_or over_bound o false
 
-never_free : (b : Bool) → b ≡ false → b ≡ true → ⊥
-never_free b f t = true≢false (sym t ∙ f)
-
 -- where a free slot takes a value, none is over its bound before
 set_over : (slots : Slots) (k : ℕ) (v : Fitted) → is_free slots k ≡ true
     → list_any slot_over (slice_set slots k (Some v)) ≡ false
     → (over_bound v ≡ false) × (list_any slot_over slots ≡ false)
 set_over [] k v free h = absurd (true≢false (sym free))
-set_over (None ∷ slots) zero v free h = or_false (over_bound v) (list_any slot_over slots) h
+set_over (None ∷ slots) zero v free h = or_parts (over_bound v) (list_any slot_over slots) h
 set_over (Some x ∷ slots) zero v free h = absurd (true≢false (sym free))
 set_over (s ∷ slots) (suc k) v free h =
-    let p = or_false (slot_over s) (list_any slot_over (slice_set slots k (Some v))) h in
+    let p = or_parts (slot_over s) (list_any slot_over (slice_set slots k (Some v))) h in
     let rest = set_over slots k v free p.1 in
     (rest.0, (λ i. p.0 i || rest.1 i))
 
@@ -221,17 +206,11 @@ module _ (labels : LabelSet) (g h : Fit) (free : IsFreed g h) where
         p.1,
       )
 
-some_lists : (vs us : List Fitted) → ◌≡◌ {A = Option (List Fitted)} (Some vs) (Some us) → vs ≡ us
-some_lists vs us e = cc
-
-none_list : (us : List Fitted) → ◌≡◌ {A = Option (List Fitted)} None (Some us) → ⊥
-none_list us e = cc
-
 -- what slots hold is over its bound where a slot is
 held_over : (slots : Slots) (fs : List Fitted) → all_held slots ≡ Some fs
     → list_any slot_over slots ≡ some_over fs
-held_over [] fs e = ap some_over (some_lists [] fs e)
-held_over (None ∷ slots) fs e = absurd (none_list fs e)
+held_over [] fs e = ap some_over (same_Some [] fs e)
+held_over (None ∷ slots) fs e = absurd (none-some fs e)
 held_over (Some v ∷ slots) fs e = by (all_held slots) refl (λ us q. held_over slots us q) e
   where
     by : (o : Option (List Fitted)) → all_held slots ≡ o
@@ -239,9 +218,9 @@ held_over (Some v ∷ slots) fs e = by (all_held slots) refl (λ us q. held_over
         → list_any slot_over slots ≡ some_over us)
         → option_map_or (λ us. Some (v ∷ us)) o None ≡ Some fs
         → list_any slot_over (Some v ∷ slots) ≡ some_over fs
-    by None q rest e = absurd (none_list fs e)
+    by None q rest e = absurd (none-some fs e)
     by (Some us) q rest e =
-        ap (λ b. over_bound v || b) (rest us q) ∙ ap some_over (some_lists (v ∷ us) fs e)
+        ap (λ b. over_bound v || b) (rest us q) ∙ ap some_over (same_Some (v ∷ us) fs e)
 
 -- ---- terms
 
@@ -286,7 +265,7 @@ module _ (gs hs : List Fit) (z : AllZip IsFreed gs hs) where
         sym (ap over_bound (sym same) ∙ over_out (fitted.Tuple fs) (Fitted-F.Tuple fs)
         (shown.outs-Tuple fs)) ∙ over in
         let count : (length us == length hs) ≡ true =
-        ap (λ n. length us == n) (sym (same_count gs hs z)) ∙ e2 in
+        ap (λ n. length us == n) (AllZip-long IsFreed gs hs z) ∙ e2 in
         ap (λ o. needs o WrongShape
         (λ us. demands (length us == length hs) WrongCount (made fitted.Tuple (places hs 0 us)))) e1
         ∙ (λ i. demands (count i) WrongCount
@@ -309,7 +288,7 @@ module _ (gs hs : List Fit) (z : AllZip IsFreed gs hs) where
         ap (λ o. needs o WrongShape (λ b. needs (number_below (length hs) b.0) BadIndex
         (λ k. made (fitted.Inj k) (fit_at hs k b.1)))) e1
         ∙ ap (λ o. needs o BadIndex (λ k. made (fitted.Inj k) (fit_at hs k b.1)))
-        (ap (λ n. number_below n b.0) (sym (same_count gs hs z)) ∙ e2)
+        (ap (λ n. number_below n b.0) (AllZip-long IsFreed gs hs z) ∙ e2)
         ∙ ap (made (fitted.Inj k)) ((at_freed gs hs k z).freed b.1 v e3 none)
         ∙ ap (λ (h : Fitted). Ok h) same;
   }
@@ -384,7 +363,7 @@ module _ (gs hs : List Fit) (z : AllZip IsFreed gs hs) where
           (λ v. made (λ w. (v, w)) (weight_fit m (weight_tree e))) w q in
           let (c, e2, same) = made-ok (λ (c : Weight). (f, c))
           (weight_fit m (weight_tree e)) w f1 in
-          let p = or_false (over_bound f) (is_over c)
+          let p = or_parts (over_bound f) (is_over c)
           (ap (λ (w : Fitted × Weight). entry_over w) same ∙ over) in
           (λ i. found (first.freed (held e) f e1 p.0 i)
           (λ v. made (λ w. (v, w)) (weight_free m (weight_tree e) c e2 p.1 i)))

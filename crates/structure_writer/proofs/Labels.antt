@@ -5,35 +5,24 @@ use Rattle.std.specs.List.{AllByRecursion, IsDistinct, position_or_len}
 use Rattle.std.specs.Cmp.Lexicographic.{lists_equiv}
 use Rattle.std.proofs.lemmas.Bool.{lt-ltb}
 use Rattle.std.proofs.lemmas.Cmp.{nat_eq_equiv}
+use Rattle.std.proofs.lemmas.Option.{none-some, same_Some, slice_get_within}
 use Rattle.file_cut.specs.Bytes.{IsName}
 use Rattle.functor_terms.specs.Words.{is_same_word, place_of, AreNames}
 use Rattle.functor_terms.specs.declared.node.LabelSet.{LabelSet}
 use Rattle.functor_terms.specs.declared.node.LabelSet.TheVariants.{Listed, Below}
 use Rattle.functor_terms.specs.Terms.{AreLabels, label_count, label_number}
-use Rattle.functor_terms.proofs.NamesLemmas.{word_is_name}
+use Rattle.functor_terms.proofs.NamesLemmas.{word_is_name, all_at}
 use Rattle.structure_writer.specs.Text.{word_at, label_word}
 use Rattle.structure_writer.proofs.Numbers.{decimal-name, decimal-below}
-
-none_some : {X : Type 0} (x : X) → None ≡ Some x → ⊥
-none_some x e = cc
-
-some_same : {X : Type 0} (x y : X) → Some x ≡ Some y → x ≡ y
-some_same x y e = cc
-
-all_at : (P : List ℕ → Type 0) (xs : List (List ℕ)) → AllByRecursion P xs → (i : ℕ) (w : List ℕ)
-    → slice_get xs i ≡ Some w → P w
-all_at P [] all i w e = absurd (none_some w e)
-all_at P (x ∷ xs) all zero w e = subst P (some_same x w e) all.0
-all_at P (x ∷ xs) all (suc i) w e = all_at P xs all.1 i w e
 
 -- the place of a word is its number
 first_place : (words : List (List ℕ)) (i : ℕ) (w : List ℕ) → IsDistinct is_same_word words
     → slice_get words i ≡ Some w → position_or_len (is_same_word w) words ≡ i
 unfolding IsDistinct
-first_place [] i w d e = absurd (none_some w e)
+first_place [] i w d e = absurd (none-some w e)
 first_place (x ∷ xs) zero w d e =
     let same : is_same_word w x ≡ true =
-    ap (is_same_word w) (some_same x w e) ∙ (lists_equiv nat_eq_equiv).refl w in
+    ap (is_same_word w) (same_Some x w e) ∙ (lists_equiv nat_eq_equiv).refl w in
     ap (λ b. cond (not b) (1 + position_or_len (is_same_word w) xs) 0) same
 first_place (x ∷ xs) (suc i) w d e =
     let other : is_same_word w x ≡ false =
@@ -43,17 +32,12 @@ first_place (x ∷ xs) (suc i) w d e =
     omega (arith, first_place xs i w d.1 e) in
     ap (λ b. cond (not b) (1 + position_or_len (is_same_word w) xs) 0) other ∙ rest
 
-inside : {X : Type 0} (xs : List X) (i : ℕ) (x : X) → slice_get xs i ≡ Some x → i < length xs
-inside [] i x e = absurd (none_some x e)
-inside (y ∷ xs) zero x e = omega arith
-inside (y ∷ xs) (suc i) x e = omega (arith, inside xs i x e)
-
 place-at : (words : List (List ℕ)) (i : ℕ) (w : List ℕ) → IsDistinct is_same_word words
     → slice_get words i ≡ Some w → place_of w words ≡ Some i
 place-at words i w d e =
     let first = first_place words i w d e in
     (λ k. cond (nat_lt (first k) (length words)) (Some (first k)) None)
-    ∙ ap (λ b. cond b (Some i) None) (lt-ltb i (length words) (inside words i w e))
+    ∙ ap (λ b. cond b (Some i) None) (lt-ltb i (length words) (slice_get_within words i w e))
 
 -- there is a word at each place below the length
 word-there : (words : List (List ℕ)) (i : ℕ) → i < length words

@@ -5,6 +5,8 @@ use Rattle.std.specs.Option.{option_map_or}
 use Rattle.std.specs.List.{list_all, AllZip}
 use Rattle.std.proofs.lemmas.Bool.{and_parts, ltb-true}
 use Rattle.std.proofs.Math.Nat.{mul-pos, one-le-pow}
+use Rattle.std.proofs.lemmas.Option.{none-some}
+use Rattle.std.proofs.lemmas.Slice.Zip.{AllZip-long}
 use Rattle.file_cut.specs.declared.tree.Tree.{Tree}
 use Rattle.file_cut.specs.declared.tree.Entry.{Entry}
 use Rattle.functor_terms.specs.declared.node.Node.{Node}
@@ -14,7 +16,7 @@ use Rattle.functor_terms.specs.Terms.{Nodes, label_number, number_below}
 use Rattle.functor_terms.proofs.Folds.{fold-related}
 use Rattle.weights.specs.Fractions.{IsLowest}
 use Rattle.weights.specs.Numerals.{Form, Whole, Over, Decimal, is_form, denominator_of, without_end_zeros, is_within, is_below_zero, signed, numerator_of, fraction_of, is_digits, number_of, form_of, has_sign, form_reading, bounded_reading, reading_of}
-use Rattle.weights.specs.FractionLaws.{lowest_terms-IsLowest}
+use Rattle.weights.specs.FractionLaws.{lowest_terms-IsLowest, never_negative}
 use Rattle.weights.specs.declared.numeral.Numeral.{Numeral}
 use Rattle.weights.specs.declared.fault.NumeralFault.TheVariants as numeral_fault
 use Rattle.typing.specs.declared.kind.TypeKind.TheVariants.{NotALabel, WrongShape, WrongCount, RepeatedKey, MissingKey, BadIndex, NotANumber, Negative}
@@ -26,13 +28,9 @@ use Rattle.fitting.specs.Levels.{word, parts, branch, entries, held, key, weight
 use Rattle.fitting.specs.Fitting.{Found, Fit, needs, demands, found, made, each, no_fit, fit_at, places, number_limit, number_fit, product_fit, sum_fit, is_keyed, is_free, Slots, filled, all_held, empty_slots, power_of, power_fit, is_alone, set_of, set_fit, is_from_zero, has_fractions, weighed, weight_fit, has_weight, entry_fit, weights_of, weights_fit, fit_step, fitting}
 use Rattle.fitting.proofs.Inversions.{ok_same, needs-ok, demands-ok, found-ok, made-ok}
 use Rattle.structure_writer.specs.Spelled.{fraction_if, fraction_spelled, free_number, free_weight, free_entry, free_entries, free_weights, free_step, free_fitting}
+use Rattle.weights.specs.NumeralLaws.{denominator-positive}
 
 -- ---- numbers
-
--- a number from 0 on is not the negative of one above 0
-never_negative : (x y : ℕ) → 0 < y → pos x ≡ neg_ℤ (pos y) → ⊥
-never_negative x zero some e = omega (arith, some)
-never_negative x (suc y) some e = cc
 
 -- a fraction below 0 has a numerator below 0
 below_zero : (p : ℤ) (m d q : ℕ) → 1 ≤ q → p *ℤ pos d ≡ negsuc m *ℤ pos q
@@ -91,15 +89,6 @@ cut_reading w n c =
     ∙ ap (λ (b : Bool). if b then bounded_reading (has_sign w) c.form
     else Err numeral_fault.NotANumber) c.formed
 
--- the denominator of a form is from 1 on
-denominator_some : (form : Form) → is_form form ≡ true → 1 ≤ denominator_of form
-denominator_some (Whole ds) h = omega arith
-denominator_some (Over ns ds) h =
-    let p = and_parts (is_digits ns) (is_digits ds && nat_lt 0 (number_of ds)) h in
-    let q = and_parts (is_digits ds) (nat_lt 0 (number_of ds)) p.1 in
-    ltb-true 0 (number_of ds) q.1
-denominator_some (Decimal ws fs) h = one-le-pow (length (without_end_zeros fs)) 10 (omega arith)
-
 -- a weight without its bound
 record IsLooseWeight (m : Node) (o : Option Tree) : Type 0 where
   pub weight : Weight
@@ -138,7 +127,7 @@ weight_loose m (Some u) c e =
         subst (λ (r : Numeral). IsLowest (signed (has_sign w) (numerator_of k.form))
         (denominator_of k.form) r.p r.q) k.is
         (lowest_terms-IsLowest (signed (has_sign w) (numerator_of k.form)) (denominator_of k.form)
-        (denominator_some k.form k.formed)) in
+        (denominator-positive k.form k.formed)) in
         let natural = both_false (is_from_zero m) (int_lt n.p (pos 0))
         (is_below_zero (has_sign w) k.form) t
         (not_below (has_sign w) (numerator_of k.form) (denominator_of k.form) n lowest) in
@@ -166,12 +155,6 @@ at_loose (g ∷ gs) (h ∷ hs) k z = by (k == 0) (at_loose gs hs (k - 1) z.1)
         → IsLoose (if b then g else fit_at gs (k - 1)) (if b then h else fit_at hs (k - 1))
     by true later = z.0
     by false later = later
-
-same_count : (gs hs : List Fit) → AllZip IsLoose gs hs → length gs ≡ length hs
-same_count [] [] z = refl
-same_count [] (h ∷ hs) z = absurd z
-same_count (g ∷ gs) [] z = absurd z
-same_count (g ∷ gs) (h ∷ hs) z = ap suc (same_count gs hs z.1)
 
 each_loose : {A B : Type 0} (g h : A → Found B)
     → ((x : A) (y : B) → g x ≡ Ok y → (z : B) × (h x ≡ Ok z)) → (xs : List A) (ys : List B)
@@ -220,15 +203,12 @@ alike_own : (xs : Slots) → Alike xs xs
 alike_own [] = tt
 alike_own (a ∷ xs) = (refl, alike_own xs)
 
-none_list : (us : List Fitted) → ◌≡◌ {A = Option (List Fitted)} None (Some us) → ⊥
-none_list us e = cc
-
 alike_held : (xs ys : Slots) (fs : List Fitted) → Alike xs ys → all_held xs ≡ Some fs
     → (gs : List Fitted) × (all_held ys ≡ Some gs)
 alike_held [] [] fs z e = ([], refl)
 alike_held [] (b ∷ ys) fs z e = absurd z
 alike_held (a ∷ xs) [] fs z e = absurd z
-alike_held (None ∷ xs) (b ∷ ys) fs z e = absurd (none_list fs e)
+alike_held (None ∷ xs) (b ∷ ys) fs z e = absurd (none-some fs e)
 alike_held (Some f ∷ xs) (None ∷ ys) fs z e = absurd (true≢false (sym z.0))
 alike_held (Some f ∷ xs) (Some g ∷ ys) fs z e =
     by (all_held xs) refl (λ us q. alike_held xs ys us z.1 q) e
@@ -238,7 +218,7 @@ alike_held (Some f ∷ xs) (Some g ∷ ys) fs z e =
         → (gs : List Fitted) × (all_held ys ≡ Some gs))
         → option_map_or (λ us. Some (f ∷ us)) o None ≡ Some fs
         → (gs : List Fitted) × (all_held (Some g ∷ ys) ≡ Some gs)
-    by None q rest e = absurd (none_list fs e)
+    by None q rest e = absurd (none-some fs e)
     by (Some us) q rest e =
         let (gs, k) = rest us q in
         (g ∷ gs, ap (λ o. option_map_or (λ us. Some (g ∷ us)) o None) k)
@@ -317,7 +297,7 @@ module _ (gs hs : List Fit) (z : AllZip IsLoose gs hs) where
         let (fs, e3, same) = made-ok fitted.Tuple (places gs 0 us) f f2 in
         let (ks, e4) = places_loose gs hs z 0 us fs e3 in
         let count : (length us == length hs) ≡ true =
-        ap (λ n. length us == n) (sym (same_count gs hs z)) ∙ e2 in (
+        ap (λ n. length us == n) (AllZip-long IsLoose gs hs z) ∙ e2 in (
           fitted.Tuple ks,
           ap (λ o. needs o WrongShape (λ us. demands (length us == length hs) WrongCount
               (made fitted.Tuple (places hs 0 us)))) e1
@@ -339,7 +319,7 @@ module _ (gs hs : List Fit) (z : AllZip IsLoose gs hs) where
           ap (λ o. needs o WrongShape (λ b. needs (number_below (length hs) b.0) BadIndex
               (λ k. made (fitted.Inj k) (fit_at hs k b.1)))) e1
               ∙ ap (λ o. needs o BadIndex (λ k. made (fitted.Inj k) (fit_at hs k b.1)))
-              (ap (λ n. number_below n b.0) (sym (same_count gs hs z)) ∙ e2)
+              (ap (λ n. number_below n b.0) (AllZip-long IsLoose gs hs z) ∙ e2)
               ∙ ap (made (fitted.Inj k)) e4,
         );
   }

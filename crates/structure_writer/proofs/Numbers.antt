@@ -17,8 +17,8 @@ use Rattle.functor_terms.specs.declared.node.Node.{Node}
 use Rattle.weights.specs.Fractions.{gcd_of, lowest_terms, IsLowest}
 use Rattle.weights.specs.FractionLaws.{ratio, gcd_of-IsGcd, lowest_terms-IsLowest, lowest_terms-smaller, lowest_terms_is, lowest_terms-whole, cancel_factor}
 use Rattle.weights.specs.FractionText.{SpellsFraction}
-use Rattle.weights.specs.FractionTextLaws.{text_of_fraction-spells}
-use Rattle.weights.specs.NumeralLaws.{cut_from_Spells}
+use Rattle.weights.specs.FractionTextLaws.{text_of_fraction-spells, decimal_is_digits}
+use Rattle.weights.specs.NumeralLaws.{cut_from_Spells, in_digits}
 use Rattle.weights.specs.Numerals.{Form, Whole, Over, Decimal, minus, point, slash, text_of_form, is_form, is_digits, number_after, number_of, signed_text, signed, numerator_of, denominator_of, numeral, fraction_of, has_sign, form_of}
 use Rattle.weights.specs.Numerals as numerals
 use Rattle.weights.specs.declared.numeral.Numeral.{Numeral}
@@ -60,13 +60,6 @@ decimal-is n small =
 some_true : (n : ℕ) → 0 < n → nat_lt 0 n ≡ true
 some_true n h = grind (arith, nat_tests)
 
--- its digits are digits of a numeral
-pub decimal-digits : (n : ℕ) → n < 10 ^ 64 → is_digits (decimal n) ≡ true
-decimal-digits n small =
-    let is = decimal-is n small in
-    and_from (nat_lt 0 (length (decimal n))) (list_all is_ascii_digit (decimal n))
-    (some_true (length (decimal n)) is.some) is.digits
-
 -- it is read as the number, where the number is below a bound
 pub decimal-below : (m n : ℕ) → n < 10 ^ 64 → n < m → number_below m (decimal n) ≡ Some n
 decimal-below m n small below =
@@ -75,7 +68,7 @@ decimal-below m n small below =
     ap (λ k. nat_lt k m) is.value ∙ lt-ltb n m below in
     let tests : is_number_below m (decimal n) ≡ true =
     and_from (nat_lt 0 (length (decimal n)) && list_all is_ascii_digit (decimal n))
-    (nat_lt (digits_value 10 (decimal n)) m) (decimal-digits n small) low in
+    (nat_lt (digits_value 10 (decimal n)) m) (decimal_is_digits n small) low in
     (λ i. if tests i then Some (is.value i) else None)
 
 -- ---- words of digits and signs
@@ -117,9 +110,6 @@ decimal-name n small =
 lengths : (ds : List ℕ) → is_digits ds ≡ true → 0 < length ds
 lengths [] h = cc
 lengths (d ∷ ds) h = omega arith
-
-in_digits : (ds : List ℕ) → is_digits ds ≡ true → list_all is_ascii_digit ds ≡ true
-in_digits ds h = (and_parts (nat_lt 0 (length ds)) (list_all is_ascii_digit ds) h).1
 
 -- the text of a form is a name
 form-name : (form : Form) → is_form form ≡ true → IsName (text_of_form form)

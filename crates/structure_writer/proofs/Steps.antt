@@ -3,6 +3,7 @@ use Rattle.std.proofs.Common.{◌≡◌, ℕ, zero, suc, ◌+◌, ◌-◌, ◌<�
 use Rattle.std.specs.Prelude.{◌==◌, if◌then◌else◌, codes}
 use Rattle.std.proofs.lemmas.Bool.Decides.{nat_tests}
 use Rattle.std.proofs.lemmas.List.{take_all}
+use Rattle.std.proofs.lemmas.Option.{none-some, same_Some}
 use Rattle.functor_terms.specs.declared.node.Node.{Node}
 use Rattle.functor_terms.specs.declared.node.Node.TheVariants.{Bag, Distribution, Integers, Rationals}
 use Rattle.functor_terms.specs.declared.node.LabelSet.{LabelSet}
@@ -10,15 +11,7 @@ use Rattle.functor_terms.specs.Terms.{Nodes, IsTerm, node_at}
 use Rattle.functor_terms.proofs.Folds.{fold-at}
 use Rattle.typing.specs.declared.value.Value.{Value}
 use Rattle.structure_writer.specs.Text.{Write, no_write, write_at, label_word, listed, paired, part_texts, keyed_texts, weights_text, write_step, text_at, child_texts, state_line, state_lines}
-
-none_some : {X : Type 0} (x : X) → None ≡ Some x → ⊥
-none_some x e = cc
-
-some_same : {X : Type 0} (x y : X) → Some x ≡ Some y → x ≡ y
-some_same x y e = cc
-
-not_zero : (k : ℕ) → (suc k == 0) ≡ false
-not_zero k = grind (arith, nat_tests)
+use Rattle.typing.proofs.TermFacts.{not_zero}
 
 write_at-suc : (w : Write) (ws : List Write) (k : ℕ) → write_at (w ∷ ws) (suc k) ≡ write_at ws k
 write_at-suc w ws k = ap (λ b. if b then w else write_at ws (suc k - 1)) (not_zero k)
@@ -28,14 +21,14 @@ module _ {A : Type 0} (g : A → Write) where
   -- how those at the k-th of some nodes are written
   pub write_found : (qs : List A) (k : ℕ) (q : A) → slice_get qs k ≡ Some q
       → write_at (map g qs) k ≡ g q
-  write_found [] k q e = absurd (none_some q e)
-  write_found (r ∷ qs) zero q e = ap g (some_same r q e)
+  write_found [] k q e = absurd (none-some q e)
+  write_found (r ∷ qs) zero q e = ap g (same_Some r q e)
   write_found (r ∷ qs) (suc k) q e = write_at-suc (g r) (map g qs) k ∙ write_found qs k q e
 
   pub write_none : (qs : List A) (k : ℕ) → slice_get qs k ≡ None
       → write_at (map g qs) k ≡ no_write
   write_none [] k e = refl
-  write_none (r ∷ qs) zero e = absurd (none_some r (sym e))
+  write_none (r ∷ qs) zero e = absurd (none-some r (sym e))
   write_none (r ∷ qs) (suc k) e = write_at-suc (g r) (map g qs) k ∙ write_none qs k e
 
 -- the places behind the first
@@ -88,10 +81,10 @@ weights-step l names m ws v is = by is
 -- the text of the part at a place
 part-text : (ws : List Write) (k : ℕ) (vs : List Value) (i : ℕ) (v : Value)
     → slice_get vs i ≡ Some v → slice_get (part_texts ws k vs) i ≡ Some (write_at ws (k + i) v)
-part-text ws k [] i v e = absurd (none_some v e)
+part-text ws k [] i v e = absurd (none-some v e)
 part-text ws k (u ∷ vs) zero v e =
     let same : k ≡ k + zero = omega arith in
-    λ i. Some (write_at ws (same i) (some_same u v e i))
+    λ i. Some (write_at ws (same i) (same_Some u v e i))
 part-text ws k (u ∷ vs) (suc i) v e =
     let same : k + 1 + i ≡ k + suc i = omega arith in
     part-text ws (k + 1) vs i v e ∙ ap (λ j. Some (write_at ws j v)) same
@@ -100,10 +93,10 @@ part-text ws k (u ∷ vs) (suc i) v e =
 keyed-text : (labels : LabelSet) (w : Write) (k : ℕ) (vs : List Value) (i : ℕ) (v : Value)
     → slice_get vs i ≡ Some v
     → slice_get (keyed_texts labels w k vs) i ≡ Some (paired (label_word labels (k + i)) (w v))
-keyed-text labels w k [] i v e = absurd (none_some v e)
+keyed-text labels w k [] i v e = absurd (none-some v e)
 keyed-text labels w k (u ∷ vs) zero v e =
     let same : k ≡ k + zero = omega arith in
-    λ i. Some (paired (label_word labels (same i)) (w (some_same u v e i)))
+    λ i. Some (paired (label_word labels (same i)) (w (same_Some u v e i)))
 keyed-text labels w k (u ∷ vs) (suc i) v e =
     let same : k + 1 + i ≡ k + suc i = omega arith in
     keyed-text labels w (k + 1) vs i v e
@@ -161,11 +154,11 @@ pub lines-more : (w : Write) (names : List (List ℕ)) (vs : List Value) (i : �
     (v : Value) → slice_get names i ≡ Some name → slice_get vs i ≡ Some v
     → state_lines w (take (suc i) names) (take (suc i) vs)
     ≡ state_lines w (take i names) (take i vs) ++ state_line name (w v)
-lines-more w [] vs i name v a b = absurd (none_some name a)
-lines-more w (n ∷ names) [] i name v a b = absurd (none_some v b)
+lines-more w [] vs i name v a b = absurd (none-some name a)
+lines-more w (n ∷ names) [] i name v a b = absurd (none-some v b)
 lines-more w (n ∷ names) (u ∷ vs) zero name v a b =
     append-nil (state_line n (w u))
-    ∙ (λ i. state_line (some_same n name a i) (w (some_same u v b i)))
+    ∙ (λ i. state_line (same_Some n name a i) (w (same_Some u v b i)))
 lines-more w (n ∷ names) (u ∷ vs) (suc i) name v a b =
     ap (λ rest. state_line n (w u) ++ rest) (lines-more w names vs i name v a b)
     ∙ sym (append_assoc (state_line n (w u)) (state_lines w (take i names) (take i vs))

@@ -23,7 +23,7 @@ use Rattle.typing.specs.Values.{state, state_in, label, label_in, parts, parts_i
 use Rattle.typing.specs.Fits.{Check, check_at, fits_level, fits_step}
 use Rattle.typing.specs.Bounds.{is_within, weights_step}
 use Rattle.typing.proofs.MapLaws.{state_within}
-use Rattle.typing.proofs.NormalLaws.{same_value}
+use Rattle.typing.proofs.NormalLaws.{same_value, state_shape}
 use Rattle.fitting.specs.declared.fitted.Fitted.{Fitted, Fitted-F, out-Fitted, map-Fitted, fold_out-Fitted}
 use Rattle.fitting.specs.declared.fitted.Fitted.TheVariants as fitted
 use Rattle.fitting.specs.declared.fitted.Fitted.TheViews as shown
@@ -35,7 +35,9 @@ use Rattle.structure_writer.specs.Text.{Write, word_at, label_word, write_step}
 use Rattle.structure_writer.specs.Spelled.{free_step, DividesAll}
 use Rattle.structure_writer.proofs.Marks.{IsTextOf, word-text}
 use Rattle.structure_writer.proofs.Labels.{word-is, label-is}
-use Rattle.structure_writer.proofs.Numbers.{decimal-is, decimal-digits, decimal-name}
+use Rattle.structure_writer.proofs.Numbers.{decimal-is, decimal-name}
+use Rattle.weights.specs.FractionTextLaws.{decimal_is_digits}
+use Rattle.fitting.proofs.JoinLaws.{denominators_out}
 
 -- ---- entries and their trees
 
@@ -68,13 +70,6 @@ module _ (l : ℕ) where
   both_divide [] qs a b = b
   both_divide (p ∷ ps) qs a b = (a.0, both_divide ps qs a.1 b)
 
-  denominators_out : (f : Fitted) (x : Fitted-F Fitted) → out-Fitted f ≡ x
-      → denominators f ≡ denominators_step (map-Fitted Fitted (List ℕ) denominators x)
-  denominators_out f x e =
-      fold_out-Fitted (List ℕ) denominators_step f
-      ∙ ap (λ (y : Fitted-F Fitted).
-      denominators_step (map-Fitted Fitted (List ℕ) denominators y)) e
-
   pub all_divide : (fs : List Fitted) → AllByRecursion (DividesAll l) fs
       → AllByRecursion Divides (flat_map (λ q. q) (map denominators fs))
   all_divide [] h = tt
@@ -106,15 +101,6 @@ module _ (l : ℕ) where
       subst (λ (qs : List ℕ). AllByRecursion Divides qs) (sym (denominators_out f x e)) h
 
 -- ---- shapes
-
-state_shape : (fs : List Check) (x : Value-F Value) → fits_level State fs x ≡ true
-    → (i : ℕ) × (x ≡ Value-F.State i)
-state_shape fs (Value-F.State i) h = (i, refl)
-state_shape fs (Value-F.Label n) h = absurd (true≢false (sym h))
-state_shape fs (Value-F.Tuple vs) h = absurd (true≢false (sym h))
-state_shape fs (Value-F.Inj k v) h = absurd (true≢false (sym h))
-state_shape fs (Value-F.Set vs) h = absurd (true≢false (sym h))
-state_shape fs (Value-F.Weights es) h = absurd (true≢false (sym h))
 
 constant_shape : (labels : LabelSet) (fs : List Check) (x : Value-F Value)
     → fits_level (Constant labels) fs x ≡ true
@@ -252,7 +238,7 @@ module _ (l : ℕ) (names : List (List ℕ)) (are : AreNames names) where
             (λ w. demands (is_digits w) NotALabel (Ok (fitted.Label (number_of w)))))
             (word_word w)
             ∙ ap (λ b. demands b NotALabel (Ok (fitted.Label (number_of w))))
-            (decimal-digits k few)
+            (decimal_is_digits k few)
             ∙ ap (λ j. Ok (fitted.Label j)) (decimal-is k few).number;
         back =
             ap (scaled_level l Naturals ss) (shown.outs-Label k)

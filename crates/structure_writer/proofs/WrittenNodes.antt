@@ -3,9 +3,10 @@ use Rattle.std.proofs.Common.{◌≡◌, ℕ, suc, ◌+◌, ◌-◌, ◌^◌, �
 use Rattle.std.specs.Prelude.{◌==◌, if◌then◌else◌, Ok, ℤ, pos, int_lt, unsigned_abs, decimal, nat_le, replicate, IsTrue}
 use Rattle.std.specs.List.{list_all, AllByRecursion, AllZip}
 use Rattle.std.specs.Ordering.{int_eq}
-use Rattle.std.proofs.lemmas.Bool.{and_parts, leb-true}
+use Rattle.std.proofs.lemmas.Bool.{and_parts, leb-true, eq-eqb}
 use Rattle.std.proofs.lemmas.Bool.Decides.{nat_tests}
 use Rattle.std.proofs.lemmas.List.Sums.{sum_by-cons}
+use Rattle.std.proofs.lemmas.List.{length-map}
 use Rattle.file_cut.specs.declared.tree.Tree.{Tree}
 use Rattle.file_cut.specs.declared.tree.Tree.TheVariants as tree
 use Rattle.file_cut.specs.declared.tree.Tree.TheViews as trees
@@ -314,7 +315,7 @@ module _ (l : ℕ) (some : 1 ≤ l) (small : l ≤ 2 ^ 40) (names : List (List �
       let shape = product_shape (map X xs) (out-Value v) t.fitting in
       let m = places_written xs good (parts v) shape.1 t.weighted
       (parts_below (length names) v t.below) (parts_within (2 ^ 106) v t.within) in
-      let many : 2 ≤ length m.trees = omega (arith, two, m.count, map_length xs) in
+      let many : 2 ≤ length m.trees = omega (arith, two, m.count, length-map xs G) in
       record {
         tree = tree.Tuple m.trees;
         fitted = fitted.Tuple m.fitted;
@@ -325,7 +326,7 @@ module _ (l : ℕ) (some : 1 ≤ l) (small : l ≤ 2 ^ 40) (names : List (List �
             ap (λ o. needs o WrongShape (λ us. demands (length us == length (map G xs)) WrongCount
             (made fitted.Tuple (places (map G xs) 0 us))))
             (ap tree_parts_in (trees.outs-Tuple m.trees))
-            ∙ (λ i. demands (same_count (length m.trees) (length (map G xs)) m.count i) WrongCount
+            ∙ (λ i. demands (eq-eqb (length m.trees) (length (map G xs)) m.count i) WrongCount
             (made fitted.Tuple (m.read i)));
         back =
             ap (scaled_level l Product (map S xs)) (shown.outs-Tuple m.fitted)
@@ -335,13 +336,6 @@ module _ (l : ℕ) (some : 1 ≤ l) (small : l ≤ 2 ^ 40) (names : List (List �
             divides_of l (fitted.Tuple m.fitted) (Fitted-F.Tuple m.fitted)
             (shown.outs-Tuple m.fitted) (all_divide l m.fitted m.divides);
       }
-    where
-      map_length : (xs : List A) → length (map G xs) ≡ length xs
-      map_length [] = refl
-      map_length (x ∷ xs) = ap suc (map_length xs)
-
-      same_count : (a b : ℕ) → a ≡ b → (a == b) ≡ true
-      same_count a b h = grind (arith, nat_tests)
 
   -- ---- sums
 
@@ -396,7 +390,7 @@ module _ (l : ℕ) (some : 1 ≤ l) (small : l ≤ 2 ^ 40) (names : List (List �
         within = inner_within (2 ^ 106) v t.within;
       }) in
       let u = h.written in
-      let less : k < 10 ^ 64 = omega (arith, h.below, few, map_length xs) in
+      let less : k < 10 ^ 64 = omega (arith, h.below, few, length-map xs G) in
       record {
         tree = tree.Inj (decimal k) u.tree;
         fitted = fitted.Inj k u.fitted;
@@ -420,10 +414,6 @@ module _ (l : ℕ) (some : 1 ≤ l) (small : l ≤ 2 ^ 40) (names : List (List �
             divides_of l (fitted.Inj k u.fitted) (Fitted-F.Inj k u.fitted)
             (shown.outs-Inj k u.fitted) u.divides;
       }
-    where
-      map_length : (xs : List A) → length (map G xs) ≡ length xs
-      map_length [] = refl
-      map_length (x ∷ xs) = ap suc (map_length xs)
 
   -- ---- all nodes
 

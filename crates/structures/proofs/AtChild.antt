@@ -3,14 +3,10 @@ use Rattle.std.proofs.Common.{◌≡◌, ℕ, zero, suc, ◌-◌, ◌<◌, ◌�
 use Rattle.std.specs.Prelude.{◌⊎◌, ◌==◌, slice_index, if◌then◌else◌}
 use Rattle.std.proofs.lemmas.Bool.Decides.{nat_tests}
 use Rattle.std.proofs.lemmas.List.{length-map}
+use Rattle.std.proofs.lemmas.Bool.{cases_lt}
 use Rattle.typing.specs.declared.value.Value.{Value}
 use Rattle.typing.specs.Layers.{Place, at_child}
-
-pub suc_not_zero : (k : ℕ) → (suc k == 0) ≡ false
-suc_not_zero k = grind (arith, nat_tests)
-
-pub lt_or_le : (a b : ℕ) → (a < b) ⊎ (b ≤ a)
-lt_or_le a b = grind arith
+use Rattle.typing.proofs.TermFacts.{not_zero}
 
 -- the values at one node
 abbrev pub at_node : ℕ → List Value → List Place
@@ -21,7 +17,7 @@ pub at_child-next :
     at_child (q ∷ qs) (suc k) us ≡ at_child qs k us
 at_child-next q qs k us =
     let one : suc k - 1 ≡ k = omega arith in
-    ap (λ o. if o then map (λ u. (q, u)) us else at_child qs (suc k - 1) us) (suc_not_zero k)
+    ap (λ o. if o then map (λ u. (q, u)) us else at_child qs (suc k - 1) us) (not_zero k)
     ∙ ap (λ n. at_child qs n us) one
 
 pub at_child-within :

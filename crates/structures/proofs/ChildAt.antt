@@ -5,11 +5,12 @@ use Rattle.std.specs.List.{zip}
 use Rattle.std.specs.Option.{option_map}
 use Rattle.std.proofs.lemmas.List.{length-map}
 use Rattle.std.proofs.lemmas.Option.{slice_get-map}
+use Rattle.std.proofs.lemmas.Bool.{cases_lt}
 use Rattle.functor_terms.specs.declared.node.Node.{Node}
 use Rattle.functor_terms.specs.Terms.{Nodes, node_at, children_at}
 use Rattle.typing.specs.declared.value.Value.{Value}
 use Rattle.typing.specs.Layers.{Place, at_child, child_places, children_of}
-use Rattle.structures.proofs.AtChild.{at_node, at_child-within, at_child-past, lt_or_le}
+use Rattle.structures.proofs.AtChild.{at_node, at_child-within, at_child-past}
 
 module _ (t : Nodes) (p : ℕ) (v : Value) (m : Node) (is : node_at t p ≡ m) where
   -- what is known where the kind of the node is known
@@ -37,7 +38,7 @@ module _ (qs : List ℕ) (k : ℕ) (us : List Value) (i : ℕ) (h : i < length (
   pub node_there : k < length qs
   node_there =
       ⊎_elim (λ (w : k < length qs). w)
-      (λ w. absurd (omega (arith, h, ap length (at_child-past qs k us w)))) (lt_or_le k (length qs))
+      (λ w. absurd (omega (arith, h, ap length (at_child-past qs k us w)))) (cases_lt k (length qs))
 
   pub value_there : i < length us
   value_there =

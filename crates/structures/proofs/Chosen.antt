@@ -5,23 +5,18 @@ use Rattle.std.proofs.Common.{◌≡◌, ℕ, zero, suc, ◌+◌, ◌<◌, ◌�
 use Rattle.std.specs.Prelude.{slice_index_or, ◌==◌, if◌then◌else◌}
 use Rattle.std.specs.List.{flat_map, AllByRecursion, AllPairs}
 use Rattle.std.proofs.lemmas.Bool.Decides.{nat_tests}
+use Rattle.std.proofs.lemmas.Option.{same_Some, none-some}
 use Rattle.functor_terms.specs.Terms.{Nodes}
 use Rattle.typing.specs.Layers.{Place, leaves_of}
 use Rattle.edge_store.specs.Edges.{chosen}
 use Rattle.structures.specs.Structures.{repeated, sources_from}
 use Rattle.structures.proofs.Expands.{append_none}
 
-some_first : {X : Type 0} (x y : X) → Some x ≡ Some y → x ≡ y
-some_first x y e = cc
-
-none_some : {X : Type 0} (x : X) → None ≡ Some x → ⊥
-none_some x e = cc
-
 other_test : (a b : ℕ) → a < b → (a == b) ≡ false
 other_test a b h = grind (arith, nat_tests)
 
-past_test : (a b : ℕ) → b < a → (a == b) ≡ false
-past_test a b h = grind (arith, nat_tests)
+pub later_test : (a b : ℕ) → b < a → (a == b) ≡ false
+later_test a b h = grind (arith, nat_tests)
 
 same_test : (a : ℕ) → (a == a) ≡ true
 same_test a = grind (arith, nat_tests)
@@ -85,7 +80,7 @@ module _ {X : Type 0} where
     chosen-before k first [] h xs = refl
     chosen-before k first (z ∷ zs) h xs =
         skipped k first (length (leaves_of t z)) (sources_from t (first + 1) zs)
-        (past_test first k h) (chosen-before k (first + 1) zs (omega (arith, h))) xs
+        (later_test first k h) (chosen-before k (first + 1) zs (omega (arith, h))) xs
 
     pub chosen-past :
         (k first : ℕ) (places : List Place) → first + length places ≤ k → (xs : List X) →
@@ -103,7 +98,7 @@ module _ {X : Type 0} where
         length (f x) ≡ length (leaves_of t x)) →
         (y : ℕ) (x : Place) → slice_get places y ≡ Some x →
         chosen (first + y) (sources_from t first places) (flat_map f places) ≡ f x
-    chosen-block f first [] h y x e = absurd (none_some x e)
+    chosen-block f first [] h y x e = absurd (none-some x e)
     chosen-block f first (z ∷ zs) h zero x e =
         let zeroth : first + 0 ≡ first = omega arith in
         let one : length (f z) ≡ length (leaves_of t z) = h 0 z refl in
@@ -115,7 +110,7 @@ module _ {X : Type 0} where
         (chosen-repeated first count (f z) one)
         ∙ ap (λ l. f z ++ l)
         (chosen-before first (first + 1) zs (omega arith) (flat_map f zs))
-        ∙ append_none (f z) ∙ ap f (some_first z x e)
+        ∙ append_none (f z) ∙ ap f (same_Some z x e)
     chosen-block f first (z ∷ zs) h (suc y) x e =
         let next : first + 1 + y ≡ first + suc y = omega arith in
         let one : length (f z) ≡ length (leaves_of t z) = h 0 z refl in
@@ -149,8 +144,8 @@ module _ (t : Nodes) where
 pub take_next :
     {X : Type 0} (xs : List X) (i : ℕ) (x : X) → slice_get xs i ≡ Some x →
     take (i + 1) xs ≡ take i xs ++ x ∷ []
-take_next [] i x e = absurd (none_some x e)
-take_next (y ∷ ys) zero x e = ap (λ z. z ∷ []) (some_first y x e)
+take_next [] i x e = absurd (none-some x e)
+take_next (y ∷ ys) zero x e = ap (λ z. z ∷ []) (same_Some y x e)
 take_next {X = X} (y ∷ ys) (suc i) x e =
     let next : suc i + 1 ≡ suc (i + 1) = omega arith in
     ap (λ n. take n (y ∷ ys)) next ∙ ap (λ l. y ∷ l) (take_next ys i x e)

@@ -2,6 +2,9 @@
 use Rattle.std.proofs.Common.{◌≡◌, ℕ, zero, suc, ◌+◌, ◌<◌, ◌≤◌, Bool, true, false, not, cond, List, [], ◌∷◌, ◌++◌, length, map, refl, sym, ap, ◌∙◌, subst, ⊎_elim, Some, None, slice_get, drop, arith, append_assoc, length-append}
 use Rattle.std.specs.Prelude.{unwrap_or, slice_index}
 use Rattle.std.specs.List.{zip}
+use Rattle.std.proofs.lemmas.Option.{same_Some, none-some}
+use Rattle.std.proofs.lemmas.Bool.{cases_lt}
+use Rattle.std.proofs.lemmas.List.{drop_all}
 use Rattle.functor_terms.specs.declared.node.Node.{Node}
 use Rattle.functor_terms.specs.declared.node.Node.TheVariants.{State, Constant, Naturals, Product, Sum, Power, Powerset, Bag, Distribution, Integers, Rationals}
 use Rattle.functor_terms.specs.Terms.{Nodes, IsTerm, node_at, children_at}
@@ -11,7 +14,7 @@ use Rattle.typing.specs.Values.{state, index, inner, parts}
 use Rattle.typing.specs.Layers.{Place, at_child, weighed, child_places, children_of, leaves_of, layers_in, is_state_at}
 use Rattle.structures.specs.Structures.{repeated}
 use Rattle.structures.specs.Walk.{targets_of}
-use Rattle.structures.proofs.AtChild.{at_child-within, at_child-past, lt_or_le, picked_in}
+use Rattle.structures.proofs.AtChild.{at_child-within, at_child-past, picked_in}
 use Rattle.structures.proofs.Leaves.{leaves-children}
 
 module _ (t : Nodes) (x : Place) (rest : List Place) (places : List Place) where
@@ -60,21 +63,14 @@ module _ (t : Nodes) (x : Place) (rest : List Place) (places : List Place) where
           append_assoc targets _ _
           ∙ ap (λ n. targets ++ length places ∷ targets_of t n rest) more
 
--- the children of a node are nodes
-some_first : {X : Type 0} (x y : X) → Some x ≡ Some y → x ≡ y
-some_first x y e = cc
-
-none_some : {X : Type 0} (x : X) → None ≡ Some x → ⊥
-none_some x e = cc
-
 abbrev AreInside : ℕ → List Place → Type 0
 AreInside n places = (i : ℕ) (x : Place) → slice_get places i ≡ Some x → x.0 < n
 
 none_inside : (n : ℕ) → AreInside n []
-none_inside n i x e = absurd (none_some x e)
+none_inside n i x e = absurd (none-some x e)
 
 one_inside : (n : ℕ) (y : Place) (ys : List Place) → y.0 < n → AreInside n ys → AreInside n (y ∷ ys)
-one_inside n y ys h hs zero x e = subst (λ z. z.0 < n) (some_first y x e) h
+one_inside n y ys h hs zero x e = subst (λ z. z.0 < n) (same_Some y x e) h
 one_inside n y ys h hs (suc i) x e = hs i x e
 
 each_inside : {X : Type 0} (n q : ℕ) (f : X → Value) → q < n → (us : List X)
@@ -99,7 +95,7 @@ at_inside n qs k us h =
     (λ w. subst (AreInside n) (sym (at_child-within qs k us w))
     (each_inside n (slice_index qs k) (λ u. u) (h k w) us))
     (λ w. subst (AreInside n) (sym (at_child-past qs k us w)) (none_inside n))
-    (lt_or_le k (length qs))
+    (cases_lt k (length qs))
 
 pub children_inside :
     (t : Nodes) (p : ℕ) (v : Value) → IsTerm t → p < length t → (i : ℕ) (x : Place) →
@@ -134,8 +130,8 @@ leaf_at t p i v x e = ap (λ l. slice_get l i) (leaves-children t (p, v)) ∙ e
 -- what is left from a place begins with what stands there
 pub drop_at : {X : Type 0} (xs : List X) (i : ℕ) (x : X) → slice_get xs i ≡ Some x
     → drop i xs ≡ x ∷ drop (i + 1) xs
-drop_at [] i x e = absurd (none_some x e)
-drop_at (y ∷ ys) zero x e = ap (λ z. z ∷ ys) (some_first y x e)
+drop_at [] i x e = absurd (none-some x e)
+drop_at (y ∷ ys) zero x e = ap (λ z. z ∷ ys) (same_Some y x e)
 drop_at {X = X} (y ∷ ys) (suc i) x e = drop_at ys i x e
     ∙ ap (λ n. x ∷ drop n (y ∷ ys)) (let one : suc (i + 1) ≡ suc i + 1 = omega arith in one)
 
@@ -182,13 +178,6 @@ module _ (t : Nodes) (kids : List Place) (i : ℕ) (x : Place) (at : slice_get k
       ∙ step_targets t x rest places targets
       ∙ sym (ap (λ l. targets ++ targets_of t (length places) l) (drop_at kids i x at)) ∙ h
 
--- at the end of the loop nothing is left
-pub none_left : {X : Type 0} (xs : List X) (i : ℕ) → length xs ≤ i → drop i xs ≡ []
-none_left [] zero h = refl
-none_left [] (suc i) h = refl
-none_left (x ∷ xs) zero h = absurd (omega arith)
-none_left (x ∷ xs) (suc i) h = none_left xs i (omega arith)
-
 pub append_none : {X : Type 0} (xs : List X) → xs ++ [] ≡ xs
 append_none [] = refl
 append_none (x ∷ xs) = ap (λ l. x ∷ l) (append_none xs)
@@ -196,18 +185,18 @@ append_none (x ∷ xs) = ap (λ l. x ∷ l) (append_none xs)
 pub linked_places : (t : Nodes) (kids places all : List Place) (i : ℕ) → length kids ≤ i
     → places ++ layers_in t (drop i kids) ≡ all → places ≡ all
 linked_places t kids places all i past h =
-    sym (append_none places) ∙ ap (λ l. places ++ layers_in t l) (sym (none_left kids i past)) ∙ h
+    sym (append_none places) ∙ ap (λ l. places ++ layers_in t l) (sym (drop_all i kids past)) ∙ h
 
 pub linked_sources :
     (kids : List Place) (source i : ℕ) (sources all : List ℕ) → length kids ≤ i →
     sources ++ repeated source (length (drop i kids)) ≡ all → sources ≡ all
 linked_sources kids source i sources all past h =
     sym (append_none sources)
-    ∙ ap (λ l. sources ++ repeated source (length l)) (sym (none_left kids i past)) ∙ h
+    ∙ ap (λ l. sources ++ repeated source (length l)) (sym (drop_all i kids past)) ∙ h
 
 pub linked_targets :
     (t : Nodes) (kids : List Place) (i next : ℕ) (targets all : List ℕ) → length kids ≤ i →
     targets ++ targets_of t next (drop i kids) ≡ all → targets ≡ all
 linked_targets t kids i next targets all past h =
     sym (append_none targets)
-    ∙ ap (λ l. targets ++ targets_of t next l) (sym (none_left kids i past)) ∙ h
+    ∙ ap (λ l. targets ++ targets_of t next l) (sym (drop_all i kids past)) ∙ h

@@ -2,9 +2,10 @@
 use Rattle.std.proofs.Common.{◌≡◌, ℕ, zero, suc, ◌-◌, ◌<◌, Bool, true, false, List, [], ◌∷◌, length, map, Some, None, slice_get, Contains, refl, sym, ap, ◌∙◌, subst, true≢false, ⊎_elim, arith}
 use Rattle.std.specs.Prelude.{ℤ, slice_index, ◌==◌, if◌then◌else◌}
 use Rattle.std.specs.List.{list_all, zip}
-use Rattle.std.proofs.lemmas.Bool.{and_parts, and_from}
+use Rattle.std.proofs.lemmas.Bool.{and_parts, and_from, cases_lt}
 use Rattle.std.proofs.lemmas.List.{length-map}
 use Rattle.std.proofs.lemmas.List.Folds.{list_all-map}
+use Rattle.std.proofs.lemmas.Option.{same_Some, none-some}
 use Rattle.functor_terms.specs.declared.node.LabelSet.{LabelSet}
 use Rattle.functor_terms.specs.declared.node.Node.{Node}
 use Rattle.functor_terms.specs.declared.node.Node.TheVariants.{State, Constant, Naturals, Product, Sum, Power, Powerset, Bag, Distribution, Integers, Rationals}
@@ -13,22 +14,17 @@ use Rattle.typing.specs.declared.value.Value.{Value, Value-F, out-Value}
 use Rattle.typing.specs.Values.{index, inner, parts, entries, parts_in, inner_in, index_in, entries_in}
 use Rattle.typing.specs.Fits.{Check, fits_level, fits_step, check_at, each_fits}
 use Rattle.typing.specs.Layers.{Place, at_child, weighed, child_places}
-use Rattle.structures.proofs.AtChild.{at_child-within, at_child-past, lt_or_le, suc_not_zero, first_in, rest_in, picked_in}
-
-some_first : {X : Type 0} (x y : X) → Some x ≡ Some y → x ≡ y
-some_first x y e = cc
-
-none_some : {X : Type 0} (x : X) → None ≡ Some x → ⊥
-none_some x e = cc
+use Rattle.structures.proofs.AtChild.{at_child-within, at_child-past, first_in, rest_in, picked_in}
+use Rattle.typing.proofs.TermFacts.{not_zero}
 
 -- what passes the k-th check shows that there is one
-check_within : (fs : List Check) (k : ℕ) (v : Value) → check_at fs k v ≡ true → k < length fs
+pub check_within : (fs : List Check) (k : ℕ) (v : Value) → check_at fs k v ≡ true → k < length fs
 check_within [] k v h = absurd (true≢false (sym h))
 check_within (f ∷ fs) zero v h = omega arith
 check_within (f ∷ fs) (suc k) v h =
     let one : suc k - 1 ≡ k = omega arith in
     let later : check_at fs k v ≡ true =
-    sym (ap (λ o. (if o then f else check_at fs (suc k - 1)) v) (suc_not_zero k)
+    sym (ap (λ o. (if o then f else check_at fs (suc k - 1)) v) (not_zero k)
     ∙ ap (λ n. check_at fs n v) one)
     ∙ h in
     omega (arith, check_within fs k v later)
@@ -40,7 +36,7 @@ check_at-map f [] k h = absurd (omega arith)
 check_at-map f (q ∷ qs) zero h = refl
 check_at-map f (q ∷ qs) (suc k) h =
     let one : suc k - 1 ≡ k = omega arith in
-    ap (λ o. if o then f q else check_at (map f qs) (suc k - 1)) (suc_not_zero k)
+    ap (λ o. if o then f q else check_at (map f qs) (suc k - 1)) (not_zero k)
     ∙ ap (check_at (map f qs)) one ∙ check_at-map f qs k (omega arith)
 
 module _ (f : ℕ → Check) (B : Value → Bool) (qs : List ℕ) where
@@ -54,10 +50,10 @@ module _ (f : ℕ → Check) (B : Value → Bool) (qs : List ℕ) where
   AreGood places = (i : ℕ) (x : Place) → slice_get places i ≡ Some x → IsGood x
 
   none_good : AreGood []
-  none_good i x e = absurd (none_some x e)
+  none_good i x e = absurd (none-some x e)
 
   one_good : (y : Place) (ys : List Place) → IsGood y → AreGood ys → AreGood (y ∷ ys)
-  one_good y ys h hs zero x e = subst IsGood (some_first y x e) h
+  one_good y ys h hs zero x e = subst IsGood (same_Some y x e) h
   one_good y ys h hs (suc i) x e = hs i x e
 
   -- what passes the k-th check
@@ -89,7 +85,7 @@ module _ (f : ℕ → Check) (B : Value → Bool) (qs : List ℕ) where
       list_all B us ≡ true → AreGood (at_child qs k us)
   at_good k us h b =
       ⊎_elim (λ w. subst AreGood (sym (at_child-within qs k us w)) (each_good k us h b))
-      (λ w. subst AreGood (sym (at_child-past qs k us w)) none_good) (lt_or_le k (length qs))
+      (λ w. subst AreGood (sym (at_child-past qs k us w)) none_good) (cases_lt k (length qs))
 
   -- a test of the values that have weights
   of_weighed :

@@ -4,11 +4,12 @@ pub mod AtChild
 pub mod Bounded
 pub mod Chosen
 pub mod Expands
+pub mod GoodChildren
 pub mod Leaves
 pub mod Sound
 pub mod WalkEnds
+
 -- Crates above do not cite these.
 mod ChildAt
-mod GoodChildren
 mod Unmerged
 mod Walked

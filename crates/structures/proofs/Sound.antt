@@ -1,8 +1,8 @@
--- Structures that fit, with state numbers and weights within their bounds: so are their children.
+-- Structures that fit, with state numbers and weights slice_get_within their bounds: so are their children.
 use Rattle.std.proofs.Common.{◌≡◌, ℕ, zero, suc, ◌+◌, ◌<◌, ◌≤◌, ◌^◌, Bool, true, false, not, cond, List, [], ◌∷◌, ◌++◌, length, map, drop, Some, None, slice_get, Contains, refl, sym, ap, ◌∙◌, subst, true≢false, ⊎_elim, inl, inr, arith, append_assoc, length-append}
 use Rattle.std.specs.Prelude.{◌⊎◌, filter, unwrap_or}
 use Rattle.std.specs.List.{list_all, AllZip}
-use Rattle.std.proofs.lemmas.Option.{slice_get_past, slice_get_cases}
+use Rattle.std.proofs.lemmas.Option.{slice_get_past, slice_get_cases, same_Some, none-some, slice_get_within}
 use Rattle.functor_terms.specs.declared.node.Node.{Node}
 use Rattle.functor_terms.specs.declared.node.Node.TheVariants.{State}
 use Rattle.functor_terms.specs.Terms.{Nodes, IsTerm, node_at, children_at, fold_within}
@@ -20,16 +20,10 @@ use Rattle.structures.proofs.Leaves.{leaves-children}
 use Rattle.structures.proofs.Bounded.{parts_within, inner_within, entries_within}
 use Rattle.structures.proofs.GoodChildren.{IsGood, children_good}
 
-pub some_first : {X : Type 0} (x y : X) → Some x ≡ Some y → x ≡ y
-some_first x y e = cc
-
-pub none_some : {X : Type 0} (x : X) → None ≡ Some x → ⊥
-none_some x e = cc
-
 -- lists
 pub kept_at : {X : Type 0} (xs ys : List X) (i : ℕ) (x : X) → slice_get xs i ≡ Some x
     → slice_get (xs ++ ys) i ≡ Some x
-kept_at [] ys i x e = absurd (none_some x e)
+kept_at [] ys i x e = absurd (none-some x e)
 kept_at (z ∷ xs) ys zero x e = e
 kept_at (z ∷ xs) ys (suc i) x e = kept_at xs ys i x e
 
@@ -52,14 +46,14 @@ at_end (z ∷ xs) x ys = at_end xs x ys
 
 filtered_at : {X : Type 0} (p : X → Bool) (xs : List X) (i : ℕ) (x : X)
     → slice_get (filter p xs) i ≡ Some x → (j : ℕ) × (slice_get xs j ≡ Some x) × (p x ≡ true)
-filtered_at p [] i x e = absurd (none_some x e)
+filtered_at p [] i x e = absurd (none-some x e)
 filtered_at {X = X} p (y ∷ ys) i x e = by (p y) refl i e (filtered_at p ys)
   where
     by : (b : Bool) → p y ≡ b → (i : ℕ) → slice_get (cond b (y ∷ filter p ys) (filter p ys)) i
         ≡ Some x → ((i : ℕ) (x : X) → slice_get (filter p ys) i ≡ Some x
         → (j : ℕ) × (slice_get ys j ≡ Some x) × (p x ≡ true))
         → (j : ℕ) × (slice_get (y ∷ ys) j ≡ Some x) × (p x ≡ true)
-    by true q zero e later = (0, e, ap p (sym (some_first y x e)) ∙ q)
+    by true q zero e later = (0, e, ap p (sym (same_Some y x e)) ∙ q)
     by true q (suc i) e later = let (j, at, passes) = later i x e in (suc j, at, passes)
     by false q i e later = let (j, at, passes) = later i x e in (suc j, at, passes)
 
@@ -90,13 +84,8 @@ pub added-append : (f : Place → ℕ) (xs ys : List Place)
 added-append f [] ys = omega arith
 added-append f (x ∷ xs) ys = omega (arith, added-append f xs ys)
 
-pub within : {X : Type 0} (xs : List X) (i : ℕ) (x : X) → slice_get xs i ≡ Some x → i < length xs
-within [] i x e = absurd (none_some x e)
-within (y ∷ ys) zero x e = omega arith
-within (y ∷ ys) (suc i) x e = omega (arith, within ys i x e)
-
 -- a node is State, or not
-true_state : (m : Node) → is_state m ≡ true → m ≡ State
+pub true_state : (m : Node) → is_state m ≡ true → m ≡ State
 true_state State h = refl
 true_state m h = absurd (true≢false (sym h))
 
@@ -169,8 +158,8 @@ module _ (t : Nodes) (is : IsTerm t) (n : ℕ) where
       (state_or (node_at t x.0))
     where
       itself : (i : ℕ) → slice_get (x ∷ []) i ≡ Some z → IsSound z
-      itself zero e = subst IsSound (some_first x z e) sound
-      itself (suc i) e = absurd (none_some z e)
+      itself zero e = subst IsSound (same_Some x z e) sound
+      itself (suc i) e = absurd (none-some z e)
 
   pub layer_later : (x : Place) → IsSound x → (i : ℕ) (z : Place)
       → slice_get (layers_in t (leaves_of t x)) i ≡ Some z
@@ -188,9 +177,9 @@ module _ (t : Nodes) (is : IsTerm t) (n : ℕ) where
       state_no_layer : (j : ℕ) → node_at t x.0 ≡ State → slice_get (x ∷ []) j ≡ Some z
           → not (is_state_at t z) ≡ true → ⊥
       state_no_layer zero e at l = true≢false (sym l
-          ∙ ap (λ (y : Place). not (is_state_at t y)) (sym (some_first x z at))
+          ∙ ap (λ (y : Place). not (is_state_at t y)) (sym (same_Some x z at))
           ∙ ap (λ m. not (is_state m)) e)
-      state_no_layer (suc j) e at l = none_some z at
+      state_no_layer (suc j) e at l = none-some z at
 
   -- what is folded over the layers does not depend on how deep one looks
   module _ {A : Type 0} (other : A) (step : Place → List A → A) where

@@ -2,6 +2,8 @@
 use Rattle.std.proofs.Common.{◌≡◌, ℕ, zero, suc, ◌+◌, ◌<◌, ◌≤◌, ◌^◌, true, List, [], ◌∷◌, length, map, take, drop, Some, slice_get, refl, sym, ap, ◌∙◌, subst, arith, All, AllPairs}
 use Rattle.std.specs.Prelude.{slice_index}
 use Rattle.std.specs.List.{AllZip}
+use Rattle.std.proofs.lemmas.Option.{same_Some, none-some, slice_get_within}
+use Rattle.std.proofs.lemmas.List.{take_all}
 use Rattle.functor_terms.specs.declared.node.Node.{Node}
 use Rattle.functor_terms.specs.declared.node.Node.TheVariants.{State}
 use Rattle.functor_terms.specs.Terms.{Nodes, node_at}
@@ -13,7 +15,6 @@ use Rattle.edge_store.specs.Edges.{chosen}
 use Rattle.structures.specs.Structures.{Occurrence, StandsFor, LeadsBy, IsLayer, IsSorting, numbers_on, numbers_below, occurrences_from, sources_from, AreStructures}
 use Rattle.structures.specs.Walk.{LeadsTo, IsWalked}
 use Rattle.structures.proofs.Chosen.{sources_ascend, sources_inside, all_of}
-use Rattle.structures.proofs.Sound.{some_first, none_some, within}
 
 pub length-numbers : (first n : ℕ) → length (numbers_on first n) ≡ n
 length-numbers first zero = refl
@@ -34,10 +35,10 @@ module _ (sources targets : List ℕ) where
   pub occurrence_at :
       (first : ℕ) (places : List Place) (y : ℕ) (x : Place) → slice_get places y ≡ Some x →
       slice_get (occurrences_from first places sources targets) y ≡ Some (here (first + y) x)
-  occurrence_at first [] y x e = absurd (none_some x e)
+  occurrence_at first [] y x e = absurd (none-some x e)
   occurrence_at first (z ∷ zs) zero x e =
       let start : first ≡ first + 0 = omega arith in
-      (λ k. Some (here (start k) (some_first z x e k)))
+      (λ k. Some (here (start k) (same_Some z x e k)))
   occurrence_at first (z ∷ zs) (suc y) x e =
       let next : first + 1 + y ≡ first + suc y = omega arith in
       occurrence_at (first + 1) zs y x e ∙ ap (λ k. Some (here k x)) next
@@ -46,10 +47,10 @@ module _ (sources targets : List ℕ) where
       (first : ℕ) (places : List Place) (y : ℕ) (o : Occurrence) →
       slice_get (occurrences_from first places sources targets) y ≡ Some o →
       (x : Place) × (slice_get places y ≡ Some x) × (here (first + y) x ≡ o)
-  place_of first [] y o e = absurd (none_some o e)
+  place_of first [] y o e = absurd (none-some o e)
   place_of first (z ∷ zs) zero o e =
       let start : first + 0 ≡ first = omega arith in
-      (z, refl, ap (λ k. here k z) start ∙ some_first _ o e)
+      (z, refl, ap (λ k. here k z) start ∙ same_Some _ o e)
   place_of first (z ∷ zs) (suc y) o e =
       let next : first + suc y ≡ first + 1 + y = omega arith in
       let (x, at_x, is_x) = place_of (first + 1) zs y o e in
@@ -58,10 +59,6 @@ module _ (sources targets : List ℕ) where
 all_dropped : {X : Type 0} (xs : List X) → drop (length xs) xs ≡ []
 all_dropped [] = refl
 all_dropped (x ∷ xs) = all_dropped xs
-
-all_taken : {X : Type 0} (xs : List X) → take (length xs) xs ≡ xs
-all_taken [] = refl
-all_taken (x ∷ xs) = ap (λ l. x ∷ l) (all_taken xs)
 
 module _
     (t : Nodes) (values : List Value) (places : List Place) (sources targets : List ℕ)
@@ -108,13 +105,13 @@ module _
       subst
       (λ k. AllZip (λ z k. LeadsTo (node_at t z.0) (length values) places z k) (leaves_of t x)
       (chosen k sources targets)) zeroth
-      (walked.linked y x (within places y x e) e)
+      (walked.linked y x (slice_get_within places y x e) e)
 
   walked_sorting : IsSorting t values system numbers
   walked_sorting = record {
     one_root = length-numbers 0 (length values);
     rooted = λ i v e.
-        subst (λ k. StandsFor system k 0 v) (sym (number_is i (within values i v e)))
+        subst (λ k. StandsFor system k 0 v) (sym (number_is i (slice_get_within values i v e)))
         (stands i (0, v) (walked.rooted i v e));
     linked = λ y o e.
         let (x, at_x, is_x) = place_of sources targets 0 places y o e in
@@ -135,7 +132,7 @@ module _
   }
 
   walked_sources : sources ≡ sources_from t 0 places
-  walked_sources = walked.by_source ∙ ap (λ l. sources_from t 0 l) (all_taken places)
+  walked_sources = walked.by_source ∙ ap (λ l. sources_from t 0 l) (take_all (length places) places (omega arith))
 
   pub walked_end :
       length places < 2 ^ 26 → length targets < 2 ^ 26 →

@@ -15,13 +15,11 @@ use Rattle.edge_store.specs.Edges.{chosen}
 use Rattle.structures.specs.Structures.{repeated, sources_from}
 use Rattle.structures.specs.Walk.{targets_of, LeadsTo, IsWalked}
 use Rattle.structures.proofs.Expands.{drop_at, append_none}
-use Rattle.structures.proofs.Chosen.{length-repeated, chosen-append, chosen-repeated, chosen-other, chosen-past, sources-snoc, take_next}
-use Rattle.structures.proofs.Sound.{IsSound, some_first, none_some, kept_at, either_at, layer_at, first_part, within, drop-append, added-append, kid_sound, layer_later, over-at, all_kept, kids_lead, fits_inside}
+use Rattle.structures.proofs.Chosen.{length-repeated, chosen-append, chosen-repeated, chosen-other, chosen-past, sources-snoc, take_next, later_test}
+use Rattle.structures.proofs.Sound.{IsSound, kept_at, either_at, layer_at, first_part, drop-append, added-append, kid_sound, layer_later, over-at, all_kept, kids_lead, fits_inside}
 use Rattle.std.proofs.lemmas.Bool.Decides.{nat_tests}
 use Rattle.std.specs.Prelude.{◌==◌}
-
-later_test : (a b : ℕ) → b < a → (a == b) ≡ false
-later_test a b h = grind (arith, nat_tests)
+use Rattle.std.proofs.lemmas.Option.{same_Some, none-some, slice_get_within}
 
 length-take : {X : Type 0} (xs : List X) (i : ℕ) → i ≤ length xs → length (take i xs) ≡ i
 length-take [] zero h = refl
@@ -88,7 +86,7 @@ module _
       let f = walked.fit at x here in record { fit = f.0; below = f.1; within = f.2 }
 
   inside : at < length places
-  inside = within places at x here
+  inside = slice_get_within places at x here
 
   before : length (take at places) ≡ at
   before = length-take places at (omega (arith, inside))
@@ -104,7 +102,7 @@ module _
       (all : List Place) → n ≤ length all → (m : Node) (w : Place) (k : ℕ) →
       LeadsTo m n all w k → k < length all
   target_inside all h State w k (i, is_i, in_i, same) = omega (arith, in_i, same, h)
-  target_inside all h m w k e = within all k w e
+  target_inside all h m w k e = slice_get_within all k w e
 
   targets_inside :
       (all : List Place) (ws : List Place) (ks : List ℕ) →
@@ -165,7 +163,7 @@ module _
       (chosen y new_sources new_targets)
   now y z same e =
       let this : x ≡ z =
-      some_first x z (sym (kept_at places more at x here)
+      same_Some x z (sym (kept_at places more at x here)
       ∙ ap (slice_get (places ++ more)) (sym same) ∙ e) in
       let those : chosen y new_sources new_targets ≡ new =
       ap (λ k. chosen k new_sources new_targets) same ∙ chosen_new in
@@ -251,8 +249,8 @@ at_least t is n (x ∷ xs) h =
 dropped_at :
     {X : Type 0} (xs : List X) (k i : ℕ) (x : X) → slice_get (drop k xs) i ≡ Some x →
     slice_get xs (k + i) ≡ Some x
-dropped_at [] zero i x e = absurd (none_some x e)
-dropped_at [] (suc k) i x e = absurd (none_some x e)
+dropped_at [] zero i x e = absurd (none-some x e)
+dropped_at [] (suc k) i x e = absurd (none-some x e)
 dropped_at (y ∷ ys) zero i x e =
     let zeroth : i ≡ 0 + i = omega arith in subst (λ j. slice_get (y ∷ ys) j ≡ Some x) zeroth e
 dropped_at (y ∷ ys) (suc k) i x e =
@@ -302,15 +300,15 @@ module _
   root_of :
       (vs : List Value) (i : ℕ) (v : Value) → slice_get vs i ≡ Some v →
       slice_get (roots_of vs) i ≡ Some (0, v)
-  root_of [] i v e = absurd (none_some v e)
-  root_of (u ∷ us) zero v e = ap (λ (w : Value). Some (0, w)) (some_first u v e)
+  root_of [] i v e = absurd (none-some v e)
+  root_of (u ∷ us) zero v e = ap (λ (w : Value). Some (0, w)) (same_Some u v e)
   root_of (u ∷ us) (suc i) v e = root_of us i v e
 
   value_at :
       (vs : List Value) (i : ℕ) (x : Place) → slice_get (roots_of vs) i ≡ Some x →
       (v : Value) × (slice_get vs i ≡ Some v) × ((0, v) ≡ x)
-  value_at [] i x e = absurd (none_some x e)
-  value_at (u ∷ us) zero x e = (u, refl, some_first (0, u) x e)
+  value_at [] i x e = absurd (none-some x e)
+  value_at (u ∷ us) zero x e = (u, refl, same_Some (0, u) x e)
   value_at (u ∷ us) (suc i) x e = value_at us i x e
 
   roots_count : (vs : List Value) → length (roots_of vs) ≡ length vs

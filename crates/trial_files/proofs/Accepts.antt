@@ -23,7 +23,8 @@ use Rattle.structure_parser.specs.Stages.{heads_of, names_of, typed_first, typed
 use Rattle.structure_writer.specs.Spelled.{DividesAll}
 use Rattle.structure_writer.proofs.ReadBack.{no_place, names_are, some_factor}
 use Rattle.structure_writer.proofs.Marks.{is_plain, IsTextOf}
-use Rattle.trial_files.proofs.Lines.{first-line, lines_with, rows_from, heads-are, rows-spelled}
+use Rattle.trial_files.proofs.Lines.{lines_with, rows_from, rows-spelled}
+use Rattle.structure_writer.proofs.TextSpells.{first_line, heads_are}
 
 -- what a text of a structure is read as, with denominators that divide 8 and sums that hold
 pub record IsGood (t : Nodes) (names : List (List ℕ)) (text : List ℕ) : Type 0 where
@@ -192,7 +193,7 @@ module _ (t : Nodes) (names : List (List ℕ)) (are : AreNames names) (functor :
   rows = rows_from 2 names us
 
   same_heads : heads_of rows ≡ names
-  same_heads = heads-are 2 names us (trees_count t names texts all ∙ count)
+  same_heads = heads_are 2 names us (trees_count t names texts all ∙ count)
 
   same_names : names_of rows ≡ names
   same_names =
@@ -213,7 +214,7 @@ module _ (t : Nodes) (names : List (List ℕ)) (are : AreNames names) (functor :
               others = lines_from 2 lines;
               lines =
                   ap lines_of (append_assoc functor (codes "\n") lines)
-                  ∙ first-line 1 functor lines plain unskipped;
+                  ∙ first_line 1 functor lines plain unskipped;
               spelled = spelled;
               each =
                   rows-spelled 2 names texts us are.each (pieces t names texts all) count;

@@ -23,16 +23,10 @@ use Rattle.fitting.specs.Scaling.{denominators, denominators_step, scaled, scale
 use Rattle.structure_writer.specs.Spelled.{DividesAll}
 use Rattle.trial_texts.specs.declared.kind.TrialKind.TheVariants.{Chain}
 use Rattle.trial_files.proofs.Terms.{term_of}
+use Rattle.fitting.proofs.JoinLaws.{denominators_out}
 
 abbrev t : Nodes
 t = term_of Chain
-
-denominators_out : (f : Fitted) (x : Fitted-F Fitted) → out-Fitted f ≡ x
-    → denominators f ≡ denominators_step (map-Fitted Fitted (List ℕ) denominators x)
-denominators_out f x e =
-    fold_out-Fitted (List ℕ) denominators_step f
-    ∙ ap (λ (y : Fitted-F Fitted).
-    denominators_step (map-Fitted Fitted (List ℕ) denominators y)) e
 
 -- a mark m, and the targets a and b with p/q and r/q
 module _ (m a b p r q : ℕ) where

@@ -2,7 +2,7 @@
 use Rattle.std.proofs.Common.{◌≡◌, ℕ, ◌-◌, ◌<◌, ◌≤◌, true, List, [], ◌∷◌, ◌++◌, length, map, Some, refl, ap, ◌∙◌, arith}
 use Rattle.std.specs.Prelude.{codes, decimal, Ok, pos}
 use Rattle.std.specs.List.{AllByRecursion, AllZip}
-use Rattle.std.proofs.lemmas.List.{length-append}
+use Rattle.std.proofs.lemmas.List.{length-append, length-map}
 use Rattle.file_cut.specs.Bytes.{IsName}
 use Rattle.file_cut.specs.Trees.{SpellsWithin, SpellsEntry, entry}
 use Rattle.file_cut.specs.declared.tree.Tree.{Tree}
@@ -34,7 +34,7 @@ use Rattle.trial_files.proofs.Terms.{two_letters, term_of}
 use Rattle.trial_files.proofs.Words.{label-reads, pair-reads, weighted, DenotesWeight, weights-read, distribution-weighs, integers-weigh, IsFine, state-fine, label-fine, tuple-fine, IsFineEntry, weights-fine}
 use Rattle.trial_files.proofs.Powers.{power-reads}
 use Rattle.trial_files.proofs.ChanceSums.{chance-sums}
-use Rattle.trial_files.proofs.Pieces.{end-is, mark-is, weight-is, AreEighths, AreShort, listed-short, counted}
+use Rattle.trial_files.proofs.Pieces.{end-is, mark-is, weight-is, AreEighths, AreShort, listed-short}
 use Rattle.trial_files.proofs.States.{pass_all, pass_entries, pass_two, state_reads, state_text, state_short, IsSum}
 
 module _ (size : ℕ) (few : size ≤ 200000) where
@@ -157,7 +157,7 @@ module _ (size : ℕ) (few : size ≤ 200000) where
             omega (
               arith,
               listed-short texts (sums_short ps all),
-              counted sum_text ps,
+              length-map ps sum_text,
               count,
               length-append (listed texts) (codes "}"),
             );

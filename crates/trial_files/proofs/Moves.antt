@@ -2,7 +2,7 @@
 use Rattle.std.proofs.Common.{◌≡◌, ℕ, ◌≤◌, true, List, [], ◌∷◌, ◌++◌, length, map, refl, arith}
 use Rattle.std.specs.Prelude.{codes, Ok}
 use Rattle.std.specs.List.{AllByRecursion, AllZip}
-use Rattle.std.proofs.lemmas.List.{length-append}
+use Rattle.std.proofs.lemmas.List.{length-append, length-map}
 use Rattle.file_cut.specs.Trees.{SpellsWithin, SpellsEntry}
 use Rattle.file_cut.specs.declared.tree.Tree.{Tree}
 use Rattle.file_cut.specs.declared.tree.Tree.TheVariants as tree
@@ -22,7 +22,7 @@ use Rattle.trial_files.proofs.Names.{names_from}
 use Rattle.trial_files.proofs.Accepts.{IsGood}
 use Rattle.trial_files.proofs.Terms.{three_letters, term_of}
 use Rattle.trial_files.proofs.Words.{label-reads, pair-reads, alone, Denote, set-reads, IsFine, state-fine, label-fine, tuple-fine, set-fine}
-use Rattle.trial_files.proofs.Pieces.{letter-is, AreShort, listed-short, counted}
+use Rattle.trial_files.proofs.Pieces.{letter-is, AreShort, listed-short}
 use Rattle.trial_files.proofs.States.{pass_all, pass_two, state_reads, state_text, state_short, IsMove}
 
 module _ (size : ℕ) (few : size ≤ 200000) where
@@ -114,7 +114,7 @@ module _ (size : ℕ) (few : size ≤ 200000) where
         short = omega (
           arith,
           short,
-          counted move_text ps,
+          length-map ps move_text,
           count,
           length-append (listed texts)
               (codes "}"),

@@ -255,7 +255,3 @@ listed-short [] all = omega arith
 listed-short (t ∷ texts) all =
     let others : List ℕ = flat_map (λ text. codes ", " ++ text) texts in
     omega (arith, more_short texts all.1, all.0, length-append t others)
-
-pub counted : {A B : Type 0} (f : A → B) (xs : List A) → length (map f xs) ≡ length xs
-counted f [] = refl
-counted f (x ∷ xs) = ap suc (counted f xs)

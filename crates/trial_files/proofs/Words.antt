@@ -25,6 +25,7 @@ use Rattle.fitting.specs.Fitting.{Fit, needs, demands, found, made, each, places
 use Rattle.fitting.specs.Scaling.{over_step, over_bound, is_over, denominator_of}
 use Rattle.structure_writer.specs.Spelled.{DividesAll}
 use Rattle.structure_writer.proofs.Written.{alone_held, alone_weight, paired_held, paired_weight, word_word, divides_of, all_divide, entries_divide, EntryDivides}
+use Rattle.fitting.proofs.FitSound.{over_out}
 
 -- ---- words
 
@@ -139,12 +140,6 @@ pub integers-weigh : (e : Entry) (u : Tree) → weight_tree e ≡ Some u → has
 integers-weigh e u h = ap is_some h
 
 -- ---- bounds
-
-over_out : (f : Fitted) (x : Fitted-F Fitted) → out-Fitted f ≡ x
-    → over_bound f ≡ over_step (map-Fitted Fitted Bool over_bound x)
-over_out f x e =
-    fold_out-Fitted Bool over_step f
-    ∙ ap (λ (y : Fitted-F Fitted). over_step (map-Fitted Fitted Bool over_bound y)) e
 
 -- no bound is passed, and each denominator divides l
 abbrev pub IsFine : ℕ → Fitted → Type 0

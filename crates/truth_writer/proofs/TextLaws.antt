@@ -6,7 +6,6 @@
 -- length-texts     == there is a text for each state
 -- line_more        == one state more has the line
 -- texts_all        == all states have the line
--- written_back     == what is written back through a slice of the whole
 use Rattle.std.proofs.Common.{◌≡◌, ℕ, Bor, zero, suc, ◌+◌, Bool, List, [], ◌∷◌, ◌++◌, length, take, replicate, set, get_or, slice_get, Some, refl, ap, sym, ◌∙◌, add-one, arith}
 use Rattle.std.proofs.lemmas.List.{take-append-le, take_all}
 use Rattle.std.proofs.lemmas.Option.{none-some, same_Some}
@@ -86,9 +85,3 @@ texts_all told k (word ∷ words) [] e = absurd (omega (arith, e))
 texts_all told k (word ∷ words) (i ∷ numbers) e =
     ap (λ texts. lines_at told word i (suc k) ∷ texts)
     (texts_all told k words numbers (omega (arith, e)))
-
--- what is written back through a slice of the whole
-pub written_back :
-    {X : Type 0} (xs rest : List X) (n : ℕ) → n ≡ length xs → take n (xs ++ rest) ≡ xs
-written_back xs rest n e =
-    take-append-le n xs rest (omega (arith, e)) ∙ take_all n xs (omega (arith, e))

@@ -6,7 +6,7 @@ use Rattle.std.specs.Cmp.{IsEquivalence}
 use Rattle.std.specs.Cmp.Lexicographic.{pointwise}
 use Rattle.std.specs.List.{list_all, AllZip, AllByRecursion}
 use Rattle.std.specs.Ordering.{int_eq}
-use Rattle.std.proofs.lemmas.Bool.{and_parts, and_from, or_cases, eqb-true, eq-eqb}
+use Rattle.std.proofs.lemmas.Bool.{and_parts, and_from, or_cases, eqb-true, eq-eqb, or_left, or_right}
 use Rattle.std.proofs.lemmas.Bool.Decides.{Decides-int_eq}
 use Rattle.std.proofs.lemmas.Cmp.{on_equiv}
 use Rattle.std.proofs.lemmas.List.Folds.{list_all-map}
@@ -22,18 +22,11 @@ use Rattle.typing.proofs.EqualityLaws.{eq_step-equivalence}
 use Rattle.typing.proofs.MapLaws.{parts_map, index_map, inner_map, entries_map, label_map, state_map, parts_below, inner_below, entries_below, state_within}
 use Rattle.typing.proofs.Weights.{coarser_sums}
 
-or_left : (x y : Bool) → x ≡ true → (x || y) ≡ true
-or_left x y h = ap (λ o. o || y) h
-
-or_right : (x y : Bool) → y ≡ true → (x || y) ≡ true
-or_right true y h = refl
-or_right false y h = h
-
 -- the entries of a weight list with their states replaced
 abbrev moved : List ℕ → List (Value × ℤ) → List (Value × ℤ)
 moved b ws = map (λ w. (relabelled b w.0, w.1)) ws
 
-weight_of-moved : (e : Test) (b : List ℕ) (ws : List (Value × ℤ)) (a : Value)
+pub weight_of-moved : (e : Test) (b : List ℕ) (ws : List (Value × ℤ)) (a : Value)
     → weight_of e (moved b ws) (relabelled b a) ≡ weight_of
     (λ x y. e (relabelled b x) (relabelled b y)) ws a
 weight_of-moved e b [] a = refl

@@ -17,7 +17,7 @@ use Rattle.typing.proofs.Tests.{no_test-equivalence, test_at-equivalence, each_p
 
 -- a choice, and what is compared there
 module _ (f : ℕ → Test) (is : (k : ℕ) → IsEquivalence (f k)) where
-  chosen_symm : (i j : ℕ) (x y : Value) → ((i == j) && f i x y) ≡ ((j == i) && f j y x)
+  pub chosen_symm : (i j : ℕ) (x y : Value) → ((i == j) && f i x y) ≡ ((j == i) && f j y x)
   chosen_symm i j x y = by (i == j) refl
     where
       by : (b : Bool) → (i == j) ≡ b → ((i == j) && f i x y) ≡ ((j == i) && f j y x)
@@ -26,7 +26,7 @@ module _ (f : ℕ → Test) (is : (k : ℕ) → IsEquivalence (f k)) where
       by false e = ap (λ b. b && f i x y) e
           ∙ sym (ap (λ b. b && f j y x) (nat_eq_equiv.symm j i ∙ e))
 
-  chosen_congr : (i j k : ℕ) (x y z : Value) → ((i == j) && f i x y) ≡ true
+  pub chosen_congr : (i j k : ℕ) (x y z : Value) → ((i == j) && f i x y) ≡ true
       → ((i == k) && f i x z) ≡ ((j == k) && f j y z)
   chosen_congr i j k x y z h =
       let p = and_parts (i == j) (f i x y) h in

@@ -31,6 +31,7 @@ use Rattle.typing.proofs.NormalLaws.{IsCanonical, none_canonical, step_canonical
 use Rattle.functor_terms.specs.Lists.{Zip3}
 use Rattle.typing.proofs.WeightTests.{positive-from_zero, sums-weaker}
 use Rattle.typing.proofs.WeightSums.{AreApart, AreOwn, own, own_in, own_positive, absolute_least, joint_same}
+use Rattle.typing.proofs.Ascending.{lt_is, less_equal, below_all, rest_ascends}
 
 -- five lists, place by place
 abbrev Zip5 :
@@ -173,31 +174,8 @@ module _ (n : ℕ) where
       (list_all-map (λ (e : Bool × ℤ). e.0) (λ (e : Value × ℤ). (is_within n e.0, e.1)) es ∙ h)
       (ap (λ k. nat_le k n) (tested_sum es) ∙ k))
 
-lt_is : (r : Ordering) → is_lt r ≡ true → r ≡ Less
-lt_is Less h = refl
-lt_is Equal h = cc
-lt_is Greater h = cc
-
-less_equal : (r : Ordering) → r ≡ Less → r ≡ Equal → ⊥
-less_equal r p q = cc
-
 -- the values of normal entries are no two equal
 module _ (x : Check) (f : Form) (e : Test) (c : IsCanonical x f e) where
-  below_all : (u : Value) (us : List Value) → ascends f.compare (u ∷ us) ≡ true
-      → list_all (λ w. is_lt (f.compare u w)) us ≡ true
-  below_all u [] h = refl
-  below_all u (v ∷ vs) h =
-      let p = and_parts (is_lt (f.compare u v)) (ascends f.compare (v ∷ vs)) h in
-      and_from (is_lt (f.compare u v)) (list_all (λ w. is_lt (f.compare u w)) vs) p.0
-      (all_where (λ w. is_lt (f.compare v w)) (λ w. is_lt (f.compare u w)) vs (below_all v vs p.1)
-      (λ w k. ap is_lt (c.ordered.total.trans u v w (lt_is (f.compare u v) p.0)
-      (lt_is (f.compare v w) k))))
-
-  rest_ascends : (u : Value) (us : List Value) → ascends f.compare (u ∷ us) ≡ true
-      → ascends f.compare us ≡ true
-  rest_ascends u [] h = refl
-  rest_ascends u (v ∷ vs) h = (and_parts (is_lt (f.compare u v)) (ascends f.compare (v ∷ vs)) h).1
-
   abbrev IsGood : Value → Type 0
   IsGood v = (x v ≡ true) × (f.is_normal v ≡ true)
 
@@ -232,8 +210,8 @@ module _ (x : Check) (f : Form) (e : Test) (c : IsCanonical x f e) where
   apart (u ∷ us) hx hn h =
       let p = and_parts (x u.0) (list_all (λ w. x w.0) us) hx in
       let q = and_parts (f.is_normal u.0) (list_all f.is_normal (firsts us)) hn in (
-        none_equal u.0 us (p.0, q.0) p.1 q.1 (below_all u.0 (firsts us) h),
-        apart us p.1 q.1 (rest_ascends u.0 (firsts us) h),
+        none_equal u.0 us (p.0, q.0) p.1 q.1 (below_all f.compare c.ordered.total u.0 (firsts us) h),
+        apart us p.1 q.1 (rest_ascends f.compare c.ordered.total u.0 (firsts us) h),
       )
 
 -- entries with their states replaced

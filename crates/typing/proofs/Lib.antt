@@ -1,4 +1,5 @@
 -- Crates above cite lemmas of these.
+pub mod Ascending
 pub mod Coarser
 pub mod EqualityLaws
 pub mod FirstPlaces

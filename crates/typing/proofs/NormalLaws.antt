@@ -81,7 +81,7 @@ all_equivalences (x ∷ xs) (f ∷ fs) [] h = absurd h
 all_equivalences (x ∷ xs) (f ∷ fs) (e ∷ es) h = (h.0.is, all_equivalences xs fs es h.1)
 
 -- the form of a value that fits
-state_shape : (fs : List Check) (x : Value-F Value) → fits_level State fs x ≡ true
+pub state_shape : (fs : List Check) (x : Value-F Value) → fits_level State fs x ≡ true
     → (i : ℕ) × (x ≡ Value-F.State i)
 state_shape fs (Value-F.State i) h = (i, refl)
 state_shape fs (Value-F.Label n) h = absurd (true≢false (sym h))

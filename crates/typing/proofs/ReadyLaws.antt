@@ -19,7 +19,7 @@ use Rattle.typing.proofs.Canonical.{all_both}
 abbrev layer_bounded : Value-F Value → Bool
 layer_bounded x = within_step (2 ^ 126) (map-Value Value Bool is_bounded x)
 
-bounded_out : (v : Value) → is_bounded v ≡ layer_bounded (out-Value v)
+pub bounded_out : (v : Value) → is_bounded v ≡ layer_bounded (out-Value v)
 bounded_out v = fold_out-Value Bool (within_step (2 ^ 126)) v
 
 -- what is known of a level of a value that may be relabelled

@@ -26,6 +26,7 @@ use Rattle.typing.specs.Equality.{the_sum}
 use Rattle.typing.proofs.Tests.{same_members-Decides, same_weights-Decides}
 use Rattle.typing.proofs.MapLaws.{parts_map, index_map, inner_map, entries_map, label_map, state_map, below_out, layer_below}
 use Rattle.typing.proofs.NormalLaws.{IsCanonical, at_canonical, weight_check, bag_weighted, distribution_weighted, integers_weighted, rationals_weighted}
+use Rattle.functor_terms.proofs.NamesLemmas.{list_any-map}
 
 -- two lists whose elements are related
 module _ {X Y : Type 0} (R : X → Y → Type 0) where
@@ -49,11 +50,6 @@ module _ {X Y : Type 0} (R : X → Y → Type 0) where
   same_length [] (y ∷ ys) z = absurd z
   same_length (x ∷ xs) [] z = absurd z
   same_length (x ∷ xs) (y ∷ ys) z = ap suc (same_length xs ys z.1)
-
-any-map : {X Y : Type 0} (p : Y → Bool) (f : X → Y) (xs : List X)
-    → list_any p (map f xs) ≡ list_any (λ x. p (f x)) xs
-any-map p f [] = refl
-any-map p f (x ∷ xs) = ap (λ b. p (f x) || b) (any-map p f xs)
 
 -- the step at a node gives the node
 pub node_relabelled : (t : Nodes) → IsTerm t → (p : ℕ) → p < length t → (m : Node) → m ≡ node_at t p
@@ -271,7 +267,7 @@ module _ (b : List ℕ) where
           λ a. s.members (check_at xs 0) ties fitting_us (λ u. e u a)
           ∙ any_agrees (IsChild 0) (λ w. e (relabelled b w) a) (λ u. e u a) vs us z
           (λ w u c. first.is.congr u (relabelled b w) a c.equal)
-          ∙ sym (any-map (λ u. e u a) (relabelled b) vs) in
+          ∙ sym (list_any-map (λ u. e u a) (relabelled b) vs) in
           record {
             fitting = ap (fits_level Powerset xs) out ∙ s.taken (check_at xs 0) fitting_us;
             normal = ap (λ y. is_normal_list (form_at fs 0) (parts_in y)) out

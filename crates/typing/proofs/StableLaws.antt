@@ -10,7 +10,7 @@ use Rattle.std.proofs.lemmas.List.{length-map, length-replicate}
 use Rattle.std.proofs.Common.{replicate}
 use Rattle.std.proofs.lemmas.Slice.Eq.{bytes_eq-Decides}
 use Rattle.std.specs.Str.{bytes_eq}
-use Rattle.std.proofs.lemmas.Option.{slice_get-map, get_or_from_slice_get}
+use Rattle.std.proofs.lemmas.Option.{slice_get-map, get_or_from_slice_get, same_Some, slice_get_within}
 use Rattle.functor_terms.specs.Terms.{Nodes}
 use Rattle.typing.specs.declared.value.Value.{Value}
 use Rattle.typing.specs.Values.{relabelled, states_below}
@@ -18,7 +18,7 @@ use Rattle.typing.specs.Equality.{Test, are_equal}
 use Rattle.typing.specs.Stable.{IsStable, AreEquivalent, IsFirst, Refines, first_equal, regrouped}
 use Rattle.typing.proofs.EqualityLaws.{eq-equivalence}
 use Rattle.typing.proofs.Coarser.{eq-coarser}
-use Rattle.typing.proofs.FirstPlaces.{first_of-le, first_of-same, first_of-at, first_of-equal, get_within, some_same, total, sum_grows, sum_bounded}
+use Rattle.typing.proofs.FirstPlaces.{first_of-le, first_of-same, first_of-at, first_of-equal, total, sum_grows, sum_bounded}
 
 -- an element in a range
 pub element : {X : Type 0} (xs : List X) (i : ℕ) → i < length xs
@@ -30,8 +30,8 @@ element (x ∷ xs) (suc i) h = element xs i (omega arith)
 -- what a test says of each element
 pub each_of : {X : Type 0} (p : X → Bool) (xs : List X) → list_all p xs ≡ true → (i : ℕ) (x : X)
     → slice_get xs i ≡ Some x → p x ≡ true
-each_of p [] h i x e = absurd (omega (arith, get_within [] i x e))
-each_of p (y ∷ ys) h zero x e = ap p (sym (some_same y x e)) ∙ (and_parts (p y) (list_all p ys) h).0
+each_of p [] h i x e = absurd (omega (arith, slice_get_within [] i x e))
+each_of p (y ∷ ys) h zero x e = ap p (sym (same_Some y x e)) ∙ (and_parts (p y) (list_all p ys) h).0
 each_of p (y ∷ ys) h (suc i) x e = each_of p ys (and_parts (p y) (list_all p ys) h).1 i x e
 
 module _ (t : Nodes) (values : List Value) where

@@ -5,6 +5,7 @@ use Rattle.std.specs.List.{list_all}
 use Rattle.std.proofs.lemmas.Bool.{and_parts, and_from, ltb-true, lt-ltb}
 use Rattle.std.proofs.lemmas.Bool.Decides.{nat_tests}
 use Rattle.std.specs.declared.cmp.Ordering.{Ordering}
+use Rattle.std.proofs.lemmas.Option.{none-some, same_Some}
 use Rattle.functor_terms.specs.declared.node.Node.{Node}
 use Rattle.functor_terms.specs.Terms.{Nodes, IsTerm, node_at, children_at}
 use Rattle.functor_terms.proofs.Folds.{fold-at}
@@ -41,16 +42,10 @@ later_first n p q qs h = let w = and_parts (nat_lt p q) (nat_lt q n)
 pub later_rest : (n p q : ℕ) (qs : List ℕ) → are_later n p (q ∷ qs) ≡ true → are_later n p qs ≡ true
 later_rest n p q qs h = (and_parts (nat_lt p q && nat_lt q n) (are_later n p qs) h).1
 
-none_some : {X : Type 0} (x : X) → None ≡ Some x → ⊥
-none_some x e = cc
-
-some_same : {X : Type 0} (x y : X) → Some x ≡ Some y → x ≡ y
-some_same x y e = cc
-
 pub later_at : (n p : ℕ) (qs : List ℕ) (k q : ℕ) → are_later n p qs ≡ true → slice_get qs k ≡ Some q
     → (p < q) × (q < n)
-later_at n p [] k q h e = absurd (none_some q e)
-later_at n p (r ∷ qs) zero q h e = subst (λ x. (p < x) × (x < n)) (some_same r q e)
+later_at n p [] k q h e = absurd (none-some q e)
+later_at n p (r ∷ qs) zero q h e = subst (λ x. (p < x) × (x < n)) (same_Some r q e)
     (later_first n p r qs h)
 later_at n p (r ∷ qs) (suc k) q h e = later_at n p qs k q (later_rest n p r qs h) e
 
@@ -59,7 +54,7 @@ pub child_later : (t : Nodes) → IsTerm t → (p k q : ℕ) → slice_get (chil
     → (p < q) × (q < length t)
 child_later t is p k q e = later_at (length t) p (children_at t p) k q (children_later t is p) e
 
-not_zero : (k : ℕ) → (suc k == 0) ≡ false
+pub not_zero : (k : ℕ) → (suc k == 0) ≡ false
 not_zero k = grind (arith, nat_tests)
 
 form_at-suc : (f : Form) (fs : List Form) (k : ℕ) → form_at (f ∷ fs) (suc k) ≡ form_at fs k
@@ -69,36 +64,36 @@ form_at-suc f fs k = ap (λ b. if b then f else form_at fs (suc k - 1)) (not_zer
 -- what is known at the k-th of some nodes
 pub form_found : (t : Nodes) (qs : List ℕ) (k q : ℕ) → slice_get qs k ≡ Some q
     → form_at (map (form t) qs) k ≡ form t q
-form_found t [] k q e = absurd (none_some q e)
-form_found t (r ∷ qs) zero q e = ap (form t) (some_same r q e)
+form_found t [] k q e = absurd (none-some q e)
+form_found t (r ∷ qs) zero q e = ap (form t) (same_Some r q e)
 form_found t (r ∷ qs) (suc k) q e = form_at-suc (form t r) (map (form t) qs) k
     ∙ form_found t qs k q e
 
 pub form_none : (t : Nodes) (qs : List ℕ) (k : ℕ) → slice_get qs k ≡ None
     → form_at (map (form t) qs) k ≡ no_form
 form_none t [] k e = refl
-form_none t (r ∷ qs) zero e = absurd (none_some r (sym e))
+form_none t (r ∷ qs) zero e = absurd (none-some r (sym e))
 form_none t (r ∷ qs) (suc k) e = form_at-suc (form t r) (map (form t) qs) k ∙ form_none t qs k e
 
-check_at-suc : (f : Check) (fs : List Check) (k : ℕ) → check_at (f ∷ fs) (suc k) ≡ check_at fs k
+pub check_at-suc : (f : Check) (fs : List Check) (k : ℕ) → check_at (f ∷ fs) (suc k) ≡ check_at fs k
 check_at-suc f fs k = ap (λ b. if b then f else check_at fs (suc k - 1)) (not_zero k)
     ∙ ap (check_at fs) (let e : suc k - 1 ≡ k = omega arith in e)
 
 pub check_found : (t : Nodes) (qs : List ℕ) (k q : ℕ) → slice_get qs k ≡ Some q
     → check_at (map (fits t) qs) k ≡ fits t q
-check_found t [] k q e = absurd (none_some q e)
-check_found t (r ∷ qs) zero q e = ap (fits t) (some_same r q e)
+check_found t [] k q e = absurd (none-some q e)
+check_found t (r ∷ qs) zero q e = ap (fits t) (same_Some r q e)
 check_found t (r ∷ qs) (suc k) q e = check_at-suc (fits t r) (map (fits t) qs) k
     ∙ check_found t qs k q e
 
-test_at-suc : (f : Test) (fs : List Test) (k : ℕ) → test_at (f ∷ fs) (suc k) ≡ test_at fs k
+pub test_at-suc : (f : Test) (fs : List Test) (k : ℕ) → test_at (f ∷ fs) (suc k) ≡ test_at fs k
 test_at-suc f fs k = ap (λ b. if b then f else test_at fs (suc k - 1)) (not_zero k)
     ∙ ap (test_at fs) (let e : suc k - 1 ≡ k = omega arith in e)
 
 pub test_found : (t : Nodes) (qs : List ℕ) (k q : ℕ) → slice_get qs k ≡ Some q
     → test_at (map (are_equal t) qs) k ≡ are_equal t q
-test_found t [] k q e = absurd (none_some q e)
-test_found t (r ∷ qs) zero q e = ap (are_equal t) (some_same r q e)
+test_found t [] k q e = absurd (none-some q e)
+test_found t (r ∷ qs) zero q e = ap (are_equal t) (same_Some r q e)
 test_found t (r ∷ qs) (suc k) q e = test_at-suc (are_equal t r) (map (are_equal t) qs) k
     ∙ test_found t qs k q e
 

@@ -4,7 +4,7 @@ use Rattle.std.specs.Prelude.{ℤ, pos, negsuc, ◌+ℤ◌, unsigned_abs, int_lt
 use Rattle.std.specs.Cmp.{IsEquivalence}
 use Rattle.std.specs.List.{list_all, list_any, AllByRecursion}
 use Rattle.std.specs.Ordering.{int_eq}
-use Rattle.std.proofs.lemmas.Bool.{and_parts, and_from, lt-ltb}
+use Rattle.std.proofs.lemmas.Bool.{and_parts, and_from, lt-ltb, or_parts}
 use Rattle.std.proofs.lemmas.Int.{ints}
 use Rattle.std.proofs.lemmas.List.Sums.{sum_by-cons}
 use Rattle.functor_terms.specs.declared.node.Node.TheVariants.{Distribution}
@@ -15,12 +15,8 @@ use Rattle.typing.specs.Bounds.{absolute_sum, are_positive, are_from_zero, joint
 use Rattle.typing.proofs.Tests.{right_congr, no_test-equivalence, all_from_each, weight_of-congr, weight_of-none}
 use Rattle.typing.proofs.Weights.{coarser_sums}
 
-triangle : (a b : ℤ) → unsigned_abs (a +ℤ b) ≤ unsigned_abs a + unsigned_abs b
+pub triangle : (a b : ℤ) → unsigned_abs (a +ℤ b) ≤ unsigned_abs a + unsigned_abs b
 triangle a b = omega (arith, ints)
-
-or_false : (x y : Bool) → (x || y) ≡ false → (x ≡ false) × (y ≡ false)
-or_false true y h = absurd (true≢false h)
-or_false false y h = (refl, h)
 
 natural_is : (z : ℤ) → not (int_lt z (pos 0)) ≡ true → (n : ℕ) × (z ≡ pos n)
 natural_is (pos n) h = (n, refl)
@@ -64,7 +60,7 @@ module _ (e : Test) (is : IsEquivalence e) where
       → AreOwn us ws → AreOwn (u ∷ us) ws
   own_more u us [] h k = tt
   own_more u us (w ∷ ws) h k =
-      let p = or_false (e w.0 u.0) (list_any (λ w. e w.0 u.0) ws) h in (
+      let p = or_parts (e w.0 u.0) (list_any (λ w. e w.0 u.0) ws) h in (
         ap (λ b. (if b then u.1 else pos 0) +ℤ weight_of e us w.0) (is.symm u.0 w.0 ∙ p.0)
             ∙ ap (λ n. pos 0 +ℤ n) k.0 ∙ omega (arith, ints),
         own_more u us ws p.1 k.1,

@@ -5,8 +5,9 @@ use Rattle.std.specs.List.{list_all}
 use Rattle.std.specs.Char.{is_ascii_digit}
 use Rattle.std.proofs.lemmas.Bool.Decides.{nat_tests}
 use Rattle.std.proofs.Math.Bool.{and-true, and-false}
+use Rattle.std.proofs.lemmas.Bool.{and_parts}
 use Rattle.weights.specs.Numerals.{Decimal, is_digits, form_reading, numerator_of, denominator_of, without_end_zeros, signed, reduced}
-use Rattle.weights.specs.NumeralLaws.{both, in_digits, few_places}
+use Rattle.weights.specs.NumeralLaws.{in_digits, few_places}
 use Rattle.weights.specs.Bounded.{bounded, fraction_reading}
 use Rattle.weights.specs.declared.fault.NumeralFault.TheVariants.{OverBound}
 use Rattle.weights.proofs.Spelled.{tells}
@@ -17,7 +18,7 @@ all_in_front : (p : ℕ → Bool) (n : ℕ) (ds : List ℕ) → list_all p ds �
 all_in_front p zero ds h = refl
 all_in_front p (suc n) [] h = refl
 all_in_front p (suc n) (d ∷ ds) h =
-    let parts = both (p d) (list_all p ds) h in
+    let parts = and_parts (p d) (list_all p ds) h in
     rw (parts.0, all_in_front p n ds parts.1) refl
 
 -- the digits that stay of a fraction are digits

@@ -174,7 +174,7 @@ abs-times (pos m) d = refl
 abs-times (negsuc m) d = abs-neg (suc m * d)
 
 -- no number from 0 on is the negative of one above 0
-never_negative : (x y : ℕ) → 0 < y → pos x ≡ neg_ℤ (pos y) → ⊥
+pub never_negative : (x y : ℕ) → 0 < y → pos x ≡ neg_ℤ (pos y) → ⊥
 never_negative x zero some e = omega arith
 never_negative x (suc y) some e = cc
 

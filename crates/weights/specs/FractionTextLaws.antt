@@ -19,7 +19,7 @@ own =
     number_after (search rules)
 
 -- a decimal text is digits
-decimal_is_digits : (n : ℕ) → n < 10 ^ 64 → is_digits (decimal n) ≡ true
+pub decimal_is_digits : (n : ℕ) → n < 10 ^ 64 → is_digits (decimal n) ≡ true
 decimal_is_digits n small =
     let is = (decimal_is_IsNumeral_wide n small).0 in
     let some : nat_lt 0 (length (decimal n)) ≡ true =
@@ -28,7 +28,7 @@ decimal_is_digits n small =
     rw (some, each) refl
 
 -- and they spell the number
-number_of-decimal : (n : ℕ) → n < 10 ^ 64 → number_of (decimal n) ≡ n
+pub number_of-decimal : (n : ℕ) → n < 10 ^ 64 → number_of (decimal n) ≡ n
 number_of-decimal n small =
     let is = decimal_is_IsNumeral_wide n small in
     own.same (decimal n) is.0.1 ∙ is.1

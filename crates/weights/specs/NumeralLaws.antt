@@ -6,7 +6,7 @@ use Rattle.std.specs.Char.{is_ascii_digit}
 use Rattle.std.proofs.Common.{sym, ◌∙◌, ap, subst, refl, inl, inr, arith}
 use Rattle.std.proofs.lemmas.Bool.Decides.{nat_tests, eqb_tells}
 use Rattle.std.proofs.lemmas.List.{append-nil, take-append-drop, take_at, drop_at, take_all, drop_all}
-use Rattle.std.proofs.lemmas.Bool.{cases_lt}
+use Rattle.std.proofs.lemmas.Bool.{cases_lt, and_parts}
 use Rattle.std.proofs.lemmas.Nat.Gcd.{dvd_refl}
 use Rattle.std.proofs.Math.Nat.{one-dvd, one-le-pow, pow-le-pow_right}
 use Rattle.std.specs.Int.{IsGcd}
@@ -18,19 +18,14 @@ use Rattle.weights.specs.declared.fault.NumeralFault.TheVariants.{NotANumber, Ov
 
 -- ---- tests
 
--- two tests that pass together pass
-pub both : (a b : Bool) → (a && b) ≡ true → (a ≡ true) × (b ≡ true)
-both true b h = (refl, h)
-both false b h = cc
-
 -- each byte of digits is a digit
 pub in_digits : (ds : List ℕ) → is_digits ds ≡ true → list_all is_ascii_digit ds ≡ true
-in_digits ds h = (both (nat_lt 0 (length ds)) (list_all is_ascii_digit ds) h).1
+in_digits ds h = (and_parts (nat_lt 0 (length ds)) (list_all is_ascii_digit ds) h).1
 
 -- no digit is a sign
 digit_is_no_minus : (d : ℕ) → is_ascii_digit d ≡ true → (d == minus) ≡ false
 digit_is_no_minus d h =
-    let parts = both (nat_le 48 d) (nat_le d 57) h in
+    let parts = and_parts (nat_le 48 d) (nat_le d 57) h in
     let low : nat_le 48 d ≡ true = parts.0 in
     grind (arith, nat_tests)
 
@@ -41,7 +36,7 @@ digits_alone :
     (ds : List ℕ) → list_all is_ascii_digit ds ≡ true → prefix_len is_ascii_digit ds ≡ length ds
 digits_alone [] h = refl
 digits_alone (d ∷ ds) h =
-    let parts = both (is_ascii_digit d) (list_all is_ascii_digit ds) h in
+    let parts = and_parts (is_ascii_digit d) (list_all is_ascii_digit ds) h in
     rw (parts.0, digits_alone ds parts.1) (omega arith)
 
 -- and what stands before the first byte that is none
@@ -51,7 +46,7 @@ digits_then :
     prefix_len is_ascii_digit (ds ++ c ∷ rest) ≡ length ds
 digits_then [] c rest h stop = rw stop refl
 digits_then (d ∷ ds) c rest h stop =
-    let parts = both (is_ascii_digit d) (list_all is_ascii_digit ds) h in
+    let parts = and_parts (is_ascii_digit d) (list_all is_ascii_digit ds) h in
     rw (parts.0, digits_then ds c rest parts.1 stop) (omega arith)
 
 -- the form of a text with digits in front of a byte that is none
@@ -75,9 +70,9 @@ form_of-text (Whole ds) h =
     ∙ ap (λ xs. form_by_rest ds xs) (drop_all (length ds) ds (omega arith))
 form_of-text (Over ns ds) h =
     form_by_front ns slash ds
-    (in_digits ns (both (is_digits ns) (is_digits ds && nat_lt 0 (number_of ds)) h).0) refl
+    (in_digits ns (and_parts (is_digits ns) (is_digits ds && nat_lt 0 (number_of ds)) h).0) refl
 form_of-text (Decimal ws fs) h =
-    form_by_front ws point fs (in_digits ws (both (is_digits ws) (is_digits fs) h).0) refl
+    form_by_front ws point fs (in_digits ws (and_parts (is_digits ws) (is_digits fs) h).0) refl
 
 -- a form that a front and a rest give has their text
 rest_tells :
@@ -114,7 +109,7 @@ first_of_digits : (ds rest : List ℕ) → is_digits ds ≡ true → has_sign (d
 first_of_digits [] rest h = cc
 first_of_digits (d ∷ ds) rest h =
     digit_is_no_minus d
-    (both (is_ascii_digit d) (list_all is_ascii_digit ds) (in_digits (d ∷ ds) h)).0
+    (and_parts (is_ascii_digit d) (list_all is_ascii_digit ds) (in_digits (d ∷ ds) h)).0
 
 -- nor has the text of a form
 first_of_text : (form : Form) → is_form form ≡ true → has_sign (text_of_form form) ≡ false
@@ -122,9 +117,9 @@ first_of_text (Whole ds) h =
     subst (λ xs. has_sign xs ≡ false) (append-nil ds) (first_of_digits ds [] h)
 first_of_text (Over ns ds) h =
     first_of_digits ns (slash ∷ ds)
-    (both (is_digits ns) (is_digits ds && nat_lt 0 (number_of ds)) h).0
+    (and_parts (is_digits ns) (is_digits ds && nat_lt 0 (number_of ds)) h).0
 first_of_text (Decimal ws fs) h =
-    first_of_digits ws (point ∷ fs) (both (is_digits ws) (is_digits fs) h).0
+    first_of_digits ws (point ∷ fs) (and_parts (is_digits ws) (is_digits fs) h).0
 
 -- the sign of a numeral, and the text behind it
 pub record IsCut (word : List ℕ) (negative : Bool) (form : Form) : Type 0 where
@@ -242,12 +237,12 @@ one_spelling word a b f g one two =
     (sym cut.sign ∙ cut'.sign, cc)
 
 -- the denominator of a numeral is at least 1
-denominator-positive : (form : Form) → is_form form ≡ true → 1 ≤ denominator_of form
+pub denominator-positive : (form : Form) → is_form form ≡ true → 1 ≤ denominator_of form
 denominator-positive (Whole ds) h = omega arith
 denominator-positive (Over ns ds) h =
-    let parts = both (is_digits ns) (is_digits ds && nat_lt 0 (number_of ds)) h in
+    let parts = and_parts (is_digits ns) (is_digits ds && nat_lt 0 (number_of ds)) h in
     let some : nat_lt 0 (number_of ds) ≡ true =
-    (both (is_digits ds) (nat_lt 0 (number_of ds)) parts.1).1 in
+    (and_parts (is_digits ds) (nat_lt 0 (number_of ds)) parts.1).1 in
     grind (arith, nat_tests)
 denominator-positive (Decimal ws fs) h = one-le-pow (length (without_end_zeros fs)) 10 (omega arith)
 
@@ -300,8 +295,8 @@ fraction_of-small negative form h =
     let smaller = lowest_terms-smaller (signed negative n) d in
     let size : unsigned_abs (signed negative n) ≡ n = abs-signed negative n in
     let tests =
-    (both (nat_le (places_of form) 12) (nat_le n (2 ^ 40) && nat_le d (2 ^ 40)) h).1 in
-    let two = both (nat_le n (2 ^ 40)) (nat_le d (2 ^ 40)) tests in
+    (and_parts (nat_le (places_of form) 12) (nat_le n (2 ^ 40) && nat_le d (2 ^ 40)) h).1 in
+    let two = and_parts (nat_le n (2 ^ 40)) (nat_le d (2 ^ 40)) tests in
     let above : n ≤ 2 ^ 40 = within_tells n two.0 in
     let below : d ≤ 2 ^ 40 = within_tells d two.1 in
     (omega (arith, smaller.0, size), omega (arith, smaller.1))

@@ -1,10 +1,11 @@
 use Rattle.std.proofs.Common.{◌≡◌, ℕ, ◌<◌, List, Some, length, refl, sym, ◌∙◌, arith, below_more, true≢false}
 use Rattle.std.specs.Prelude.{slice_get, slice_index}
 use Rattle.std.proofs.lemmas.Option.{slice_get_read}
+use Rattle.std.proofs.lemmas.Slice.Zip.{AllZip-long}
 use Rattle.functor_terms.proofs.TermLaws.{term-some}
 use Rattle.typing.specs.declared.value.Value.{Value}
 use Rattle.typing.specs.NormalForms.{IsRelabelledAt}
-use Rattle.answer_checker.proofs.Alike.{zip_length, tie_is_like, apart_is_unlike}
+use Rattle.answer_checker.proofs.Alike.{tie_is_like, apart_is_unlike}
 use Rattle.answer_checker.proofs.likeness.first_apart.Goals as goal
 
 pub compare-requires : goal.compare-requires
@@ -52,6 +53,6 @@ loop-y-preserved c values numbers are first =
 pub returns-clause-like : goal.returns-clause-like
 returns-clause-like c none values numbers are first y h =
     let count : length values ≡ length c.args.forms.now =
-    zip_length (IsRelabelledAt c.args.term.now numbers 0) values c.args.forms.now are in
+    sym (AllZip-long (IsRelabelledAt c.args.term.now numbers 0) values c.args.forms.now are) in
     c.loop-y.invariant values numbers are first y
     (omega (arith, h, count, c.requires.one_each, c.loop-y-test.false))

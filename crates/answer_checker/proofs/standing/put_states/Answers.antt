@@ -1,9 +1,9 @@
 use Rattle.std.proofs.Common.{[], ◌∷◌, ◌++◌, map, take, sym, subst, arith}
-use Rattle.std.proofs.lemmas.List.{take_all}
+use Rattle.std.proofs.lemmas.List.{take_all, map_more}
 use Rattle.answer_checker.specs.Blocks.{line_with}
 use Rattle.answer_checker.specs.Verdicts.{number_of}
 use Rattle.answer_checker.specs.Steps.{ArePlaces}
-use Rattle.answer_checker.proofs.PutStates.{line_begun, map-take_more}
+use Rattle.answer_checker.proofs.PutStates.{line_begun}
 use Rattle.answer_checker.proofs.standing.put_states.Goals as goal
 
 pub loop-word-init : goal.loop-word-init
@@ -19,7 +19,7 @@ loop-word-preserved c =
       one_each = c.put_state.ensures.one_each;
       put = λ lines f count are.
           subst (λ ss. ArePlaces (lines ++ line_with f ss ∷ []) c.put_state.new.places)
-          (sym (map-take_more (λ word. number_of c.args.names.now word.now) c.args.words.now
+          (sym (map_more (λ word. number_of c.args.names.now word.now) c.args.words.now
           c.loop-word.word-index _ c.loop-word-test.true))
           (c.put_state.ensures.put lines f
           (map (λ word. number_of c.args.names.now word.now)

@@ -2,7 +2,7 @@ use Rattle.std.proofs.Common.{[], arith, refl, sym, ap, ◌∙◌, option_map}
 use Rattle.command_line.specs.Asked.{denoted}
 use Rattle.command_line.specs.Requests.{Asks, AsksNothing}
 use Rattle.copar_run.specs.Outcome.{Ran}
-use Rattle.copar_run.proofs.Prefixes.{append_known_none}
+use Rattle.outside.proofs.Taking.{append_known_none}
 use Rattle.copar_run.proofs.top.ended.Goals as goal
 
 pub returns-in-Ok-None-clause-ends : goal.returns-in-Ok-None-clause-ends

@@ -6,7 +6,7 @@ use Rattle.copar_run.specs.Outcome.{Ends, counts, is_end, met}
 use Rattle.copar_run.specs.Lines.{IsLine, told_line}
 use Rattle.copar_run.proofs.Projections.{ended}
 use Rattle.copar_run.proofs.Making.{end-halted, end-written, end-failed, halted-line, no-word, rise-of}
-use Rattle.copar_run.proofs.Prefixes.{append_known_none}
+use Rattle.outside.proofs.Taking.{append_known_none}
 use Rattle.copar_run.proofs.top.work.Goals as goal
 
 pub returns-then-put_all-clause-ends : goal.returns-then-put_all-clause-ends

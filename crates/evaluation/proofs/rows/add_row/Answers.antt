@@ -1,11 +1,11 @@
 use Rattle.std.proofs.Common.{◌≡◌, ◌+◌, ℕ, Bool, List, [], ◌∷◌, ◌++◌, length, Some, slice_get, sym, ap, ◌∙◌, subst, arith}
+use Rattle.std.proofs.lemmas.List.{take_at}
 use Rattle.typing.specs.Contents.{content_of}
 use Rattle.typing.specs.Layers.{Place}
 use Rattle.structures.specs.Structures.{sources_from}
 use Rattle.evaluation.specs.Truths.{truth_at}
 use Rattle.evaluation.specs.Uses.{KeepsRows}
 use Rattle.evaluation.specs.Rows.{trits_of, truth_by, IsEvaluating}
-use Rattle.evaluation.proofs.UseLaws.{written_back}
 use Rattle.evaluation.proofs.RowLaws.{evaluating_step}
 use Rattle.evaluation.proofs.rows.add_row.Goals as goal
 
@@ -37,7 +37,7 @@ returns c =
     let step = evaluating_step (content_of c.args.c.now) dag s.places s.firsts.items
     s.targets.items last_uses rows dropped row f c.requires.evaluating c.requires.left there made
     keeps in
-    let back = written_back dropped _ c.push.new.self.len
+    let back = take_at dropped _ c.push.new.self.len
     (omega (
       arith,
       c.push.new.self.ok.0,

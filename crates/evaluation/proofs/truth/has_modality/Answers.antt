@@ -1,6 +1,7 @@
 use Rattle.std.proofs.Common.{◌≡◌, ◌+◌, Bool, ◌&&◌, length, Some, sym, ap, ◌∙◌, subst}
 use Rattle.std.specs.Prelude.{slice_index, slice_range}
 use Rattle.std.proofs.lemmas.Bool.{eq-eqb}
+use Rattle.std.proofs.lemmas.Option.{same_Some}
 use Rattle.functor_terms.specs.Terms.{node_at}
 use Rattle.typing.specs.Layers.{Place}
 use Rattle.edge_store.specs.Edges.{chosen}
@@ -9,9 +10,6 @@ use Rattle.formulas.specs.Truth.{is_value}
 use Rattle.formula_checker.specs.LayerValues.{layer_value}
 use Rattle.evaluation.proofs.EdgeLaws.{IsEdgeRange, edge_range, edges_chosen, place_inside, place_within}
 use Rattle.evaluation.proofs.truth.has_modality.Goals as goal
-
-some_same : {X : Type 0} (x y : X) → Some x ≡ Some y → x ≡ y
-some_same x y e = cc
 
 pub trits_from-requires : goal.trits_from-requires
 trits_from-requires c =
@@ -44,7 +42,7 @@ returns-then-p-node c p e =
     let trits = c.args.trits.now in
     let value = c.args.value.now in
     let first : Place = (c.get-p.result.0, c.get-p.result.1.now) in
-    let same : first ≡ p = some_same first p (sym c.get-p.ensures.place ∙ e) in
+    let same : first ≡ p = same_Some first p (sym c.get-p.ensures.place ∙ e) in
     let here : p.0 ≡ c.args.node = sym (ap (λ (q : Place). q.0) same) ∙ c.if-p-node.true in
     let edges : c.trits_from.result.now ≡ chosen x (sources_from t 0 s.places) trits =
     c.trits_from.ensures

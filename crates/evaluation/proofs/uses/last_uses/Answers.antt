@@ -1,7 +1,8 @@
 use Rattle.std.proofs.Common.{◌≡◌, ◌+◌, ◌≤◌, ◌++◌, [], ◌∷◌, ℕ, List, sym, ◌∙◌, ap, subst, arith, length}
 use Rattle.std.specs.Prelude.{slice_index}
+use Rattle.std.proofs.lemmas.List.{take_at}
 use Rattle.evaluation.specs.Uses.{AreLastUses}
-use Rattle.evaluation.proofs.UseLaws.{written_back, uses_step, push_within}
+use Rattle.evaluation.proofs.UseLaws.{uses_step, push_within}
 use Rattle.evaluation.proofs.uses.last_uses.Goals as goal
 
 pub loop-k-preserved : goal.loop-k-preserved
@@ -17,7 +18,7 @@ loop-k-preserved c =
     (c.note_uses.ensures.more i) in
     let is : c.push.new.self.items ≡ mid ++ (k + 1) ∷ [] =
     c.in_ok-push.ensures.items ∙ ap (λ l. l ++ (k + 1) ∷ [])
-    (written_back mid _ c.loop-k.last_uses.len ok) in
+    (take_at mid _ c.loop-k.last_uses.len (sym ok)) in
     record {
       uses =
           subst (AreLastUses c.args.dag.now (k + 1)) (sym is)

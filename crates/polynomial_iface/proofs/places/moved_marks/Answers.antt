@@ -1,7 +1,7 @@
 use Rattle.std.proofs.Common.{◌∙◌, ◌==◌, ap, length, map, min}
+use Rattle.std.proofs.lemmas.List.{length-map}
 use Rattle.polynomial_iface.specs.Polys.{value_of_form}
 use Rattle.polynomial_iface.specs.Places.{trits_from}
-use Rattle.polynomial_iface.specs.PolyLaws.{length-map}
 use Rattle.polynomial_iface.proofs.Told.{length-trits_from}
 use Rattle.polynomial_iface.proofs.places.moved_marks.Goals as goal
 
@@ -14,5 +14,5 @@ pub value_at-requires-2 : goal.value_at-requires-2
 value_at-requires-2 c =
     ap length (c.in_ok-without.ensures ∙ ap (map (λ t. min 1 t)) (c.as_slice.ensures.value
     ∙ c.in_ok-trits.ensures))
-    ∙ length-map (λ t. min 1 t) (trits_from c.args.marks.now 0 c.args.moved.now)
+    ∙ length-map (trits_from c.args.marks.now 0 c.args.moved.now) (λ t. min 1 t)
     ∙ length-trits_from c.args.marks.now 0 c.args.moved.now ∙ c.requires.one_each

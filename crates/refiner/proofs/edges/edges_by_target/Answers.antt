@@ -1,9 +1,8 @@
 use Rattle.std.proofs.Common.{◌<◌, ◌∙◌, sym, arith}
-use Rattle.std.proofs.lemmas.List.{get_or_default}
+use Rattle.std.proofs.lemmas.List.{get_or_default, length-map}
 use Rattle.edge_store.specs.declared.edge.Edge.{Edge}
 use Rattle.refiner.specs.Cells.{target_at}
 use Rattle.refiner.proofs.Gathered.{gather_none, gather_more}
-use Rattle.refiner.proofs.Keeps.{length-map}
 use Rattle.refiner.proofs.edges.edges_by_target.Goals as goal
 
 pub loop-y-init : goal.loop-y-init
@@ -25,7 +24,7 @@ returns-clause-every g c = λ e he b.
     omega (
       arith,
       c.is_stored.ensures.targets_in e 0
-          (omega (arith, he, length-map (λ (a : Edge _). a.target) c.args.store.now.edges)),
+          (omega (arith, he, length-map c.args.store.now.edges (λ (a : Edge _). a.target))),
     ) in
     let found = c.members-members.ensures.members.every t (omega (arith, ht, c.requires.states))
     b in

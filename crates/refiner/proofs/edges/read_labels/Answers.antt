@@ -1,10 +1,10 @@
 use Rattle.std.proofs.Common.{◌≡◌, ◌<◌, ◌∙◌, [], ◌∷◌, ◌++◌, Some, length, get_or, ap, sym, refl, arith}
 use Rattle.std.specs.Prelude.{slice_get}
 use Rattle.std.proofs.lemmas.Option.{slice_get_read}
+use Rattle.std.proofs.lemmas.List.{length-map}
 use Rattle.edge_store.specs.declared.edge.Edge.{Edge}
 use Rattle.edge_store.specs.Edges.{labels_of}
 use Rattle.refiner.proofs.Gathered.{labels_more}
-use Rattle.refiner.proofs.Keeps.{length-map}
 use Rattle.refiner.proofs.edges.read_labels.Goals as goal
 
 pub loop-e-preserved : goal.loop-e-preserved
@@ -16,7 +16,7 @@ loop-e-preserved g c =
     omega (
       arith,
       c.requires.in_range c.loop-e.e-index 0 c.loop-e-test.true,
-      length-map (λ (e : Edge _). e.label) c.args.store.now.edges,
+      length-map c.args.store.now.edges (λ (e : Edge _). e.label),
     ) in
     let at : slice_get labels e ≡ Some a =
     slice_get_read labels (length labels) e a refl h (c.label.ensures.label a) in

@@ -1,6 +1,6 @@
 use Rattle.std.proofs.Common.{◌≡◌, ◌<◌, ◌∙◌, length, map, get_or, set, ℕ, ap, sym, subst, arith}
 use Rattle.std.specs.Prelude.{slice_get, Some, All}
-use Rattle.std.proofs.lemmas.List.{get_or_read}
+use Rattle.std.proofs.lemmas.List.{get_or_read, length-map}
 use Rattle.iface.specs.Structures.{IsCell}
 use Rattle.edge_store.specs.declared.edge.Edge.{Edge}
 use Rattle.edge_store.specs.Edges.{labels_of, labels_from, targets_from}
@@ -8,7 +8,6 @@ use Rattle.refinable_partition.specs.Blocks.{states_of}
 use Rattle.refiner.specs.Cells.{IsParted, target_at}
 use Rattle.refiner.specs.Making.{trit_in}
 use Rattle.refiner.proofs.CellsStep.{cells_step, same_cell}
-use Rattle.refiner.proofs.Keeps.{length-map}
 use Rattle.refiner.proofs.OneSource.{length-labels_at, cell_of, source_low, target_low}
 use Rattle.refiner.proofs.RoundMade.{state_at}
 use Rattle.refiner.proofs.values.update_one.Goals as goal
@@ -73,7 +72,7 @@ update-requires-clause-few g c =
     let labels = labels_of c.args.store.now.edges in
     let all : All (λ e. e < length labels) c.args.edges.now = λ k d h.
     (let e = c.requires.group.each k d h in
-    omega (arith, e.0, length-map (λ (e : Edge _). e.label) c.args.store.now.edges)) in
+    omega (arith, e.0, length-map c.args.store.now.edges (λ (e : Edge _). e.label))) in
     omega (
       arith,
       ap length (c.as_slice.ensures.value ∙ c.in_ok-read_labels.ensures),
@@ -141,7 +140,7 @@ returns-clause-counted g c =
     let labels = labels_of c.args.store.now.edges in
     let all : All (λ e. e < length labels) c.args.edges.now = λ k d h.
     (let e = c.requires.group.each k d h in
-    omega (arith, e.0, length-map (λ (e : Edge _). e.label) c.args.store.now.edges)) in
+    omega (arith, e.0, length-map c.args.store.now.edges (λ (e : Edge _). e.label))) in
     omega (
       arith,
       ap length (c.as_slice.ensures.value ∙ c.in_ok-read_labels.ensures),

@@ -1,10 +1,10 @@
 use Rattle.std.proofs.Common.{◌≡◌, ◌+◌, ◌<◌, [], length, map, replicate, sym, ap, subst, ◌∙◌}
 use Rattle.std.specs.List.{All}
-use Rattle.std.proofs.lemmas.List.{length-map}
+use Rattle.std.proofs.lemmas.List.{length-map, take_at}
 use Rattle.typing.specs.Contents.{Content, content_of}
 use Rattle.satisfaction.specs.Satisfaction.{holds_at}
 use Rattle.truth_writer.specs.Truths.{texts_at}
-use Rattle.truth_writer.proofs.TextLaws.{bytes_of, texts_none, length-texts, written_back}
+use Rattle.truth_writer.proofs.TextLaws.{bytes_of, texts_none, length-texts}
 use Rattle.truth_writer.proofs.writing.truths_text.Goals as goal
 
 pub loop-k-init : goal.loop-k-init
@@ -56,7 +56,7 @@ loop-k-preserved c =
       dag = dag;
       next = c.in_ok-advance.ensures.next ∙ ap (λ n. n + 1) c.loop-k.invariant.next;
       told =
-          written_back texts _ c.loop-k.texts.len (c.loop-k.texts.ok.0 ∙ sym long)
+          take_at texts _ c.loop-k.texts.len (sym (c.loop-k.texts.ok.0 ∙ sym long))
           ∙ c.in_ok-put_lines.ensures.told
           ∙ (λ x. texts_at (holds_at (content x) (dag x)) (c.loop-k.k + 1)
           (map bytes_of c.args.words.now) c.args.numbers.now);
