@@ -2,7 +2,7 @@
 use Rattle.std.proofs.Common.{◌≡◌, ℕ, ◌+◌, ◌<◌, ◌≤◌, ◌==◌, Bool, true, false, List, [], ◌∷◌, ◌++◌, length, get_or, set, map, take, drop, refl, sym, ap, ◌∙◌, subst, arith, inl, inr}
 use Rattle.std.specs.Prelude.{if◌then◌else◌}
 use Rattle.std.proofs.lemmas.Bool.{cases_eq, eq-eqb, ne_eqb}
-use Rattle.std.proofs.lemmas.List.{take_more, take_all, drop_all, append-nil, map-append, length-map, length-take-le, length-set, get_or-set_same, get_or-set_other, map_more}
+use Rattle.std.proofs.lemmas.List.{take_more, take_all, drop_all, append-nil, map-append, length-map, length-take-le, length-set, get_or-set_same, get_or-set_other}
 use Rattle.answer_checker.specs.Blocks.{BlockLine, line_with, times_among, times_in}
 use Rattle.formula_text.specs.Reading.{block_seen}
 use Rattle.formula_text.specs.declared.answer.BlockLine.{BlockLine as TheBlockLine}

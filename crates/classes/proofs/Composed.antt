@@ -1,5 +1,5 @@
 -- What the greatest stable labelling of the sorted states says of the states.
-use Rattle.std.proofs.Common.{◌≡◌, ℕ, zero, suc, ◌+◌, ◌<◌, ◌≤◌, true, List, [], ◌∷◌, length, map, refl, sym, ap, ◌∙◌, subst, arith}
+use Rattle.std.proofs.Common.{◌≡◌, ℕ, ◌+◌, ◌<◌, ◌≤◌, true, List, [], ◌∷◌, length, refl, sym, ap, ◌∙◌, subst, arith}
 use Rattle.std.specs.Prelude.{slice_index, ◌↔◌}
 use Rattle.std.specs.List.{list_all}
 use Rattle.std.proofs.lemmas.List.{length-map, get_or-map}
@@ -10,7 +10,7 @@ use Rattle.typing.specs.Values.{states_below}
 use Rattle.typing.specs.Stable as coalgebra
 use Rattle.typing.proofs.StableLaws.{element, under, under_coarser}
 use Rattle.sorted_systems.specs.Systems.{IsGreatestStable, class_in}
-use Rattle.structures.specs.Structures.{Occurrence, IsSorting, numbers_on, numbers_below}
+use Rattle.structures.specs.Structures.{Occurrence, IsSorting, numbers_below}
 use Rattle.layers.specs.Nest.{any_agree}
 use Rattle.desorting.specs.Shapes.{sorted_system}
 use Rattle.desorting.specs.Agreement.{root_labels}
@@ -46,7 +46,11 @@ module _
           let inside : last < length values = omega (arith, ap length e) in
           let (w, at_w) = element values last inside in
           let (o, at_o, is_node, is_value) = sorting.rooted last w at_w in
-          omega (arith, root last inside, slice_get_within occurrences (slice_index roots last) o at_o)
+          omega (
+            arith,
+            root last inside,
+            slice_get_within occurrences (slice_index roots last) o at_o,
+          )
 
   module _
       (within : list_all (states_below (length values)) values ≡ true) (firsts : List ℕ)

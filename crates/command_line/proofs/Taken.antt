@@ -1,6 +1,6 @@
 -- clap takes all words of which none begins with `-`, with or without `--stats` behind them, and
 -- their line has them as they stand.
-use Rattle.std.proofs.Common.{◌≡◌, ◌==◌, ◌&&◌, Bool, true, false, not, List, [], ◌∷◌, ◌++◌, Some, None, codes, refl, ap, sym, ◌∙◌, bytes_eq, fold, is_some, unwrap_or, append_assoc, subst}
+use Rattle.std.proofs.Common.{◌≡◌, ◌==◌, ◌&&◌, true, false, List, [], ◌∷◌, ◌++◌, Some, None, codes, refl, ap, sym, ◌∙◌, bytes_eq, fold, is_some, unwrap_or, append_assoc, subst}
 use Rattle.std.specs.List.{list_all}
 use Rattle.std.proofs.lemmas.Bool.{not-true, and_parts}
 use Rattle.clap.specs.Words.{Rule, Text, Row, Kinds, built}

@@ -1,9 +1,9 @@
 -- What a sink has taken where a text was written in parts.
-use Rattle.std.proofs.Common.{◌≡◌, ℕ, ◌+◌, ◌≤◌, arith, List, [], ◌++◌, length, take, min, Option, Some, None, refl, ap, sym, ◌∙◌, append_assoc, append-nil}
+use Rattle.std.proofs.Common.{◌≡◌, ℕ, ◌+◌, ◌≤◌, arith, List, [], ◌++◌, length, take, min, Option, refl, ap, sym, ◌∙◌}
 use Rattle.std.proofs.Math.Seq.{take-append-add}
 use Rattle.std.proofs.lemmas.List.{take-append-le, take_min}
 use Rattle.std.specs.Io.KnownBytes.{append_known}
-use Rattle.outside.proofs.Taking.{append_known_none, append_known_twice}
+use Rattle.outside.proofs.Taking.{append_known_twice}
 
 -- some bytes of the text from its front were taken
 abbrev pub TookFront : Option (List ℕ) → Option (List ℕ) → List ℕ → Type 0

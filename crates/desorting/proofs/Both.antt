@@ -1,10 +1,9 @@
 -- Stable labellings of the system, as the refiner knows them, and stable lists of the coalgebra.
-use Rattle.std.proofs.Common.{◌≡◌, ℕ, zero, suc, ◌<◌, true, List, [], ◌∷◌, length, map, Some, None, slice_get, refl, sym, ap, ◌∙◌, subst, arith}
+use Rattle.std.proofs.Common.{◌≡◌, ℕ, ◌<◌, true, List, [], length, map, Some, slice_get, refl, sym, ap, ◌∙◌, subst}
 use Rattle.std.specs.Prelude.{slice_index, ◌↔◌}
-use Rattle.std.specs.List.{AllZip}
 use Rattle.std.specs.Option.{option_map}
 use Rattle.std.proofs.lemmas.List.{length-map, get_or-map}
-use Rattle.std.proofs.lemmas.Option.{slice_get-map, none-some, same_Some, slice_get_within}
+use Rattle.std.proofs.lemmas.Option.{slice_get-map, slice_get_within}
 use Rattle.std.proofs.lemmas.Slice.Zip.{AllZip-long}
 use Rattle.functor_terms.specs.Terms.{Nodes, IsTerm, node_at, children_at}
 use Rattle.typing.specs.declared.value.Value.{Value}
@@ -21,13 +20,7 @@ use Rattle.layers.specs.Nest.{AnyShape, AnyLabel, any_agree}
 use Rattle.desorting.specs.Shapes.{shape_of, labels_of, sorted_of, sorted_system}
 use Rattle.desorting.proofs.Bridge.{structure, one_node, node_is, agree_to, agree_from}
 use Rattle.desorting.proofs.Desorting.{linked_children, to_coalgebra, to_system, joined_labels, joined_labels-join}
-
--- what stands at a place of a mapped list
-pub mapped_at : {X Y : Type 0} (f : X → Y) (xs : List X) (i : ℕ) (y : Y)
-    → slice_get (map f xs) i ≡ Some y → (x : X) × (slice_get xs i ≡ Some x) × (f x ≡ y)
-mapped_at f [] i y e = absurd (none-some y e)
-mapped_at f (x ∷ xs) zero y e = (x, refl, same_Some (f x) y e)
-mapped_at f (x ∷ xs) (suc i) y e = mapped_at f xs i y e
+use Rattle.typing.proofs.MapLaws.{mapped_at}
 
 module _ (t : Nodes) (values : List Value) (system : List Occurrence) (roots : List ℕ)
     (is_term : IsTerm t) (sorting : IsSorting t values system roots) where

@@ -12,7 +12,7 @@ use Rattle.typing.specs.declared.value.Value.{Value, Value-F, out-Value}
 use Rattle.typing.specs.Values.{label, index, inner, parts, entries, relabelled, index_in}
 use Rattle.typing.specs.Layers.{Place, at_child, weighed, child_places}
 use Rattle.structures.proofs.AtChild.{picked_in, at_child-within}
-use Rattle.typing.specs.Fits.{Check, fits_level, fits_step, check_at}
+use Rattle.typing.specs.Fits.{Check, fits_level, fits_step}
 use Rattle.typing.specs.Equality.{Test, test_at, each_place, same_members, same_weights, eq_step}
 use Rattle.typing.proofs.MapLaws.{parts_map, index_map, inner_map, entries_map, label_map}
 use Rattle.desorting.specs.Agreement.{AgreeAt}

@@ -1,5 +1,5 @@
 -- One layer: agreement of classes against equality of values, at each kind of node.
-use Rattle.std.proofs.Common.{◌≡◌, ℕ, Bool, true, false, ◌||◌, List, [], ◌∷◌, map, refl, sym, ap, ◌∙◌, subst, true≢false, ⊎_elim, Contains}
+use Rattle.std.proofs.Common.{◌≡◌, ℕ, Bool, true, false, List, [], ◌∷◌, map, refl, sym, ◌∙◌, subst, true≢false, ⊎_elim, Contains}
 use Rattle.std.specs.Prelude.{◌==◌}
 use Rattle.std.specs.Cmp.Lexicographic.{pointwise}
 use Rattle.std.specs.List.{list_all, zip, AllZip}
@@ -7,9 +7,10 @@ use Rattle.std.proofs.lemmas.Bool.{and_parts, and_from, or_cases, eqb-true, eq-e
 use Rattle.typing.specs.declared.value.Value.{Value}
 use Rattle.typing.specs.Values.{relabelled}
 use Rattle.typing.specs.Layers.{Place}
-use Rattle.structures.proofs.AtChild.{first_in, rest_in}
 use Rattle.typing.specs.Equality.{Test, each_place, has, same_members}
 use Rattle.powerset_iface.specs.Sets.{SameSet, has as has_class}
+use Rattle.functor_terms.proofs.Folds.{first_in, rest_in}
+use Rattle.typing.proofs.Tests.{bools_agree}
 
 -- R says that a child has a class, E whether two children at a node are equal
 module _ (R : Place → ℕ → Type 0) (b : List ℕ) (E : ℕ → Test) where
@@ -154,11 +155,6 @@ module _ (R : Place → ℕ → Type 0) (b : List ℕ) (E : ℕ → Test) where
         ⊎_elim (λ here. subst (λ n. has_class n ds ≡ true) (eqb-true d c here)
         (class_met ws ds u d h y x.0 p.0)) (λ later. covered-agree us ws cs ds c h x.1 y p.1
         later) (or_cases (d == c) (has_class c cs) k)
-
-    bools_agree : (x y : Bool) → (x ≡ true → y ≡ true) → (y ≡ true → x ≡ true) → x ≡ y
-    bools_agree true y f g = sym (f refl)
-    bools_agree false true f g = g refl
-    bools_agree false false f g = refl
 
     pub members-agree : (us ws : List Value) (cs ds : List ℕ) → EqualsMeet q
         → AllZip R (at_node q us) cs → AllZip R (at_node q ws) ds

@@ -28,7 +28,7 @@ use Rattle.desorting.specs.Shapes.{shape_of, labels_of, sorted_of, sorted_system
 use Rattle.desorting.proofs.Bridge.{node_is}
 use Rattle.desorting.proofs.Counts.{labels_count}
 use Rattle.desorting.proofs.Weighed.{weights_within}
-use Rattle.desorting.proofs.Both.{mapped_at}
+use Rattle.typing.proofs.MapLaws.{mapped_at}
 
 module _ (qs : List ℕ) (p : ℕ) (v : Value) (k : ℕ) (small : size_of (λ (x : ℤ). x)
     (map (λ e. e.1) (entries v)) ≤ 2 ^ 106) where

@@ -1,7 +1,7 @@
 -- Reading trees is their grammar.
 use Rattle.std.proofs.Common.{◌≡◌, ℕ, zero, suc, ◌-◌, ◌<◌, ◌≤◌, List, [], ◌∷◌, ◌++◌, length, Option, Some, None, Bool, true, false, refl, sym, ap, ◌∙◌, subst, append_assoc, append-nil, arith, length-append, inl, inr, ◌⊎◌}
 use Rattle.std.specs.Prelude.{option_and_then, if◌then◌else◌}
-use Rattle.std.proofs.lemmas.Option.{some_pair_parts}
+use Rattle.std.proofs.lemmas.Option.{some_pair_parts, none-some}
 use Rattle.file_cut.specs.Bytes.{are_digits}
 use Rattle.file_cut.specs.Trees.{SpellsEach, SpellsEntry, SpellsOpen, SpellsWord, SpellsWithin, entry}
 use Rattle.file_cut.specs.Trees.SpellsEntry.{alone, paired}
@@ -59,9 +59,6 @@ word-complete : (front : List Mark) (x : Tree) (rest : List Mark) → SpellsWord
     → word_at (front ++ rest) ≡ Some (x, rest)
 word-complete front x rest (w, is, made) = ap (λ l. word_at (l ++ rest)) is
     ∙ ap (λ t. Some (t, rest)) (sym made)
-
-none_some : (p : Tree × List Mark) → None ≡ Some p → ⊥
-none_some p e = cc
 
 -- what f of what was read came from
 mapped : {A B : Type 0} (f : A → B) (r : Option (A × List Mark)) (y : B) (rest : List Mark)
@@ -268,13 +265,10 @@ module _ (inside : Reads Tree) (Inside : List Mark → Tree → Type 0) where
     unfolding items_at items_within
     entries-braces [] entries rest e = ap (made_of tree.Braces) e
     entries-braces (CloseBrace ∷ ts) entries rest e =
-        absurd (none_some (entries, rest)
+        absurd (none-some (entries, rest)
         (sym (ap (λ r. option_and_then
         (λ p. after_item in_braces p.0 (items_within in_braces (entry_at inside) (length ts)) p.1)
         (option_and_then (λ p. behind_first inside p.0 p.1) r)) (refused ts)) ∙ e))
-      where
-        none_some : (p : List Entry × List Mark) → None ≡ Some p → ⊥
-        none_some p h = cc
     entries-braces (t ∷ ts) entries rest e = ap (made_of tree.Braces) e
 
     entries-complete : (inner : List Mark) (entries : List Entry) (rest : List Mark)
@@ -385,7 +379,7 @@ whole-spelled n ts t rest e none =
 -- where nothing is read, nothing is spelled
 pub none-spelled : (n : ℕ) (ts : List Mark) → tree_at n ts ≡ None → (t : Tree)
     → SpellsWithin n ts t → ⊥
-none-spelled n ts e t spelled = none_some (t, []) (sym e ∙ whole n ts t spelled)
+none-spelled n ts e t spelled = none-some (t, []) (sym e ∙ whole n ts t spelled)
 
 -- nor where more is left
 pub more-spelled : (n : ℕ) (ts : List Mark) (x : Tree) (m : Mark) (others : List Mark)

@@ -15,8 +15,6 @@ mod fault;
 mod laws;
 mod line;
 mod mark;
-#[cfg(test)]
-mod tests;
 mod token;
 mod tree;
 mod word;

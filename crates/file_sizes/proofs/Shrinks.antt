@@ -1,8 +1,7 @@
 -- A normal value is no larger than a value that is equal to it.
 use Rattle.std.proofs.Common.{◌≡◌, ℕ, zero, suc, ◌+◌, ◌-◌, ◌≤◌, Bool, true, false, not, cond, ◌||◌, List, [], ◌∷◌, length, map, Option, Some, None, slice_get, refl, sym, ap, ◌∙◌, subst, true≢false, arith, ⊎_elim}
 use Rattle.std.specs.Prelude.{ℤ, pos, ◌==◌, ◌⊎◌}
-use Rattle.std.specs.declared.cmp.Ordering.{Ordering}
-use Rattle.std.specs.declared.cmp.Ordering.TheVariants.{Less, Equal, Greater}
+use Rattle.std.specs.declared.cmp.Ordering.TheVariants.{Equal}
 use Rattle.std.specs.Ordering.{is_lt, int_eq}
 use Rattle.std.specs.Option.{option_map_or}
 use Rattle.std.specs.Cmp.{IsEquivalence, tied_itself}
@@ -23,7 +22,6 @@ use Rattle.typing.specs.Equality.{Test, no_test, test_at, each_place, has, weigh
 use Rattle.typing.specs.Fits.{Check, no_check, check_at, each_fits, fits_step, fits}
 use Rattle.typing.specs.Order.{Form, no_form, form_at, ascends, each_normal, is_normal_list, is_normal_sum, form_step, is_normal}
 use Rattle.typing.proofs.Tests.{same_weights-Decides, weight_of-none}
-use Rattle.typing.proofs.Coarser.{all_where}
 use Rattle.typing.proofs.NormalLaws.{IsCanonical, none_canonical, step_canonical, set_shape, product_shape, power_shape, sum_shape, weight_shape, IsWeighted, bag_weighted, distribution_weighted, integers_weighted, rationals_weighted}
 use Rattle.typing.proofs.WeightSums.{AreApart, AreOwn, own, own_in}
 use Rattle.file_sizes.proofs.Sizes.{Size, no_size, size_at, sum_each, sum_of, size_step, size_within, size}

@@ -1,5 +1,5 @@
 -- The trees that stand in a tree have texts that do not overlap.
-use Rattle.std.proofs.Common.{◌≡◌, ℕ, zero, suc, ◌+◌, ◌≤◌, List, [], ◌∷◌, ◌++◌, length, Some, None, sym, ap, ◌∙◌, subst, arith, length-append, ⊎_elim}
+use Rattle.std.proofs.Common.{◌≡◌, ℕ, zero, suc, ◌+◌, ◌≤◌, List, [], ◌∷◌, ◌++◌, length, Some, sym, ap, ◌∙◌, subst, arith, length-append, ⊎_elim}
 use Rattle.std.proofs.lemmas.Option.{none-some, same_Some}
 use Rattle.file_cut.specs.Trees.{SpellsEach, SpellsEntry, SpellsOpen, SpellsWord, SpellsWithin, alone, paired, same, tuple, inj, empty, braces}
 use Rattle.file_cut.specs.declared.mark.Mark.{Mark}

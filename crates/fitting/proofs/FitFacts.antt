@@ -1,8 +1,7 @@
 -- What a tree is found to be at a node, by what its children find.
 use Rattle.std.proofs.Common.{◌≡◌, ℕ, zero, suc, ◌-◌, ◌<◌, Bool, true, false, List, [], ◌∷◌, length, map, Some, None, slice_get, refl, sym, ap, ◌∙◌, subst, arith}
-use Rattle.std.specs.Prelude.{◌==◌, if◌then◌else◌, nat_le, pos, Result, Ok, Err, unsigned_abs}
+use Rattle.std.specs.Prelude.{if◌then◌else◌, nat_le, pos, Result, Ok, Err, unsigned_abs}
 use Rattle.std.proofs.lemmas.Bool.{leb-true}
-use Rattle.std.proofs.lemmas.Bool.Decides.{nat_tests}
 use Rattle.std.proofs.lemmas.Option.{none-some, same_Some}
 use Rattle.file_cut.specs.declared.tree.Tree.{Tree}
 use Rattle.functor_terms.specs.declared.node.Node.{Node}

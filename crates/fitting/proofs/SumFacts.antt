@@ -1,8 +1,7 @@
 -- What a node asks of sums, by what its children ask.
-use Rattle.std.proofs.Common.{◌≡◌, ℕ, zero, suc, ◌-◌, ◌<◌, Bool, true, false, ◌&&◌, List, [], ◌∷◌, length, map, Some, None, slice_get, refl, sym, ap, ◌∙◌, arith}
-use Rattle.std.specs.Prelude.{ℤ, pos, ◌==◌, if◌then◌else◌}
+use Rattle.std.proofs.Common.{◌≡◌, ℕ, zero, suc, ◌<◌, Bool, true, ◌&&◌, List, [], ◌∷◌, length, map, Some, None, slice_get, refl, sym, ap, ◌∙◌}
+use Rattle.std.specs.Prelude.{ℤ, pos, if◌then◌else◌}
 use Rattle.std.specs.Ordering.{int_eq}
-use Rattle.std.proofs.lemmas.Bool.Decides.{nat_tests}
 use Rattle.std.proofs.lemmas.Option.{none-some, same_Some}
 use Rattle.functor_terms.specs.declared.node.Node.{Node}
 use Rattle.functor_terms.specs.declared.node.Node.TheVariants.{Distribution}
@@ -12,7 +11,7 @@ use Rattle.typing.specs.declared.value.Value.{Value}
 use Rattle.typing.specs.Values.{entries}
 use Rattle.typing.specs.Bounds.{are_any, joint_weight, entries_hold, sums_step, any_weights, sums_hold}
 use Rattle.typing.specs.Fits.{Check, no_check, check_at}
-use Rattle.typing.proofs.TermFacts.{not_zero, check_at-suc}
+use Rattle.typing.proofs.TermFacts.{check_at-suc}
 
 module _ (g : ℕ → Check) where
   -- what the k-th of some nodes asks

@@ -17,8 +17,6 @@ mod numbers;
 mod pieces;
 mod reading;
 mod said;
-#[cfg(test)]
-mod tests;
 mod values;
 mod writing;
 

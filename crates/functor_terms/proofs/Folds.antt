@@ -60,10 +60,10 @@ module _ {A B : Type 0} (R : A → B → Type 0) (a : A) (b : B) (f : Node → L
   fold-related p = fold_within-related (length t) p
 
 -- the first of a list is in it, and so is each of the rest
-first_in : {X : Type 0} (x : X) (xs : List X) → Contains (x ∷ xs) x
+pub first_in : {X : Type 0} (x : X) (xs : List X) → Contains (x ∷ xs) x
 first_in x xs = (0, omega arith, refl)
 
-rest_in : {X : Type 0} (x : X) (xs : List X) (y : X) → Contains xs y → Contains (x ∷ xs) y
+pub rest_in : {X : Type 0} (x : X) (xs : List X) (y : X) → Contains xs y → Contains (x ∷ xs) y
 rest_in x xs y h = let (k, below, same) = h in (suc k, omega (arith, below), same)
 
 -- nothing is found only past the end

@@ -8,7 +8,7 @@ use Rattle.std.proofs.lemmas.Bool.Decides.{nat_tests}
 use Rattle.std.proofs.lemmas.Fmt.{decimal_is_IsNumeral}
 use Rattle.std.proofs.lemmas.Str.Parse.{digit_at}
 use Rattle.std.proofs.lemmas.Bool.{and_parts}
-use Rattle.file_cut.specs.Bytes.{is_blank, is_word_byte, IsName}
+use Rattle.file_cut.specs.Bytes.{is_word_byte, IsName}
 use Rattle.file_cut.proofs.TokenLaws.{blank_ends}
 use Rattle.functor_terms.specs.declared.node.LabelSet.{LabelSet}
 use Rattle.functor_terms.specs.declared.node.LabelSet.TheVariants.{Listed, Below}

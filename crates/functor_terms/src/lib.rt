@@ -23,11 +23,7 @@ mod part;
 mod powers;
 mod reading;
 mod sign;
-#[cfg(test)]
-mod tables;
 mod term;
-#[cfg(test)]
-mod tests;
 mod text;
 
 pub use fault::{PartFault, TermFault};

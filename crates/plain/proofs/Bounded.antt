@@ -5,7 +5,7 @@ use Rattle.std.specs.List.{list_all}
 use Rattle.std.proofs.lemmas.Bool.{and_parts, and_from, leb-true}
 use Rattle.std.proofs.lemmas.List.Folds.{list_all-map}
 use Rattle.std.proofs.lemmas.List.Sums.{sum_by-cons}
-use Rattle.typing.specs.declared.value.Value.{Value, Value-F, out-Value, roll-Value, fold_out-Value, map-Value, ind-Value, out-roll-Value}
+use Rattle.typing.specs.declared.value.Value.{Value, Value-F, out-Value, roll-Value, map-Value, ind-Value, out-roll-Value}
 use Rattle.typing.specs.Values.{parts, parts_in, inner, inner_in, entries, entries_in, relabelled}
 use Rattle.typing.specs.Bounds.{within_step, is_bounded, absolute_sum}
 use Rattle.typing.proofs.MapLaws.{mapped, out_map}

@@ -1,8 +1,7 @@
 -- Equality at a node, from equality at its children.
-use Rattle.std.proofs.Common.{◌≡◌, ℕ, zero, suc, ◌<◌, ◌-◌, Bool, false, ◌&&◌, List, [], ◌∷◌, length, map, None, slice_get, refl, sym, ap, ◌∙◌, arith}
-use Rattle.std.specs.Prelude.{ℤ, ◌==◌, if◌then◌else◌}
+use Rattle.std.proofs.Common.{◌≡◌, ℕ, zero, suc, ◌<◌, Bool, ◌&&◌, List, [], ◌∷◌, length, map, None, slice_get, refl, sym, ap, ◌∙◌}
+use Rattle.std.specs.Prelude.{ℤ, if◌then◌else◌}
 use Rattle.std.specs.Ordering.{int_eq}
-use Rattle.std.proofs.lemmas.Bool.Decides.{nat_tests}
 use Rattle.std.proofs.lemmas.List.Folds.{list_all-append}
 use Rattle.std.proofs.lemmas.Option.{none-some}
 use Rattle.functor_terms.specs.declared.node.Node.{Node}
@@ -11,7 +10,7 @@ use Rattle.functor_terms.proofs.Folds.{fold-at}
 use Rattle.typing.specs.declared.value.Value.{Value}
 use Rattle.typing.specs.Equality.{Test, no_test, test_at, eq_step, are_equal, same_totals, the_sum}
 use Rattle.plain.specs.Pairs.{child_test, total_at, agree_at}
-use Rattle.typing.proofs.TermFacts.{not_zero, test_at-suc}
+use Rattle.typing.proofs.TermFacts.{test_at-suc}
 
 -- equality at a node is a step from its children
 pub equal-at : (t : Nodes) → IsTerm t → (p : ℕ) → p < length t → (m : Node) → m ≡ node_at t p

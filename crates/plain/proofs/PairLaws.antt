@@ -13,6 +13,7 @@ use Rattle.typing.specs.Values.{relabelled}
 use Rattle.typing.specs.Equality.{are_equal}
 use Rattle.typing.specs.Stable.{IsStable, first_equal, regrouped}
 use Rattle.plain.specs.Pairs.{are_like, all_alike, first_place}
+use Rattle.typing.proofs.MapLaws.{mapped_at}
 
 when : (c x : Bool) → c ≡ true → (if c then x else true) ≡ true → x ≡ true
 when true x e h = h
@@ -78,13 +79,6 @@ module _ (t : Nodes) where
       and_from (are_like t l w bs vs) (all_alike t ks us bs vs)
       (like_from l w bs vs (λ j v at e. f 0 j w v refl at e))
       (alike_from ks us bs vs (λ i j u v at at' e. f (suc i) j u v at at' e))
-
--- an element of a list of what a function gives
-mapped_at : {X Y : Type 0} (f : X → Y) (xs : List X) (i : ℕ) (y : Y)
-    → slice_get (map f xs) i ≡ Some y → (x : X) × (slice_get xs i ≡ Some x) × (f x ≡ y)
-mapped_at f [] i y e = absurd (none-some y e)
-mapped_at f (x ∷ xs) zero y e = (x, refl, same_Some (f x) y e)
-mapped_at f (x ∷ xs) (suc i) y e = mapped_at f xs i y e
 
 module _ (t : Nodes) (values : List Value) (b : List ℕ) where
   pub stable_from : length b ≡ length values

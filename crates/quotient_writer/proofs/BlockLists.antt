@@ -1,5 +1,5 @@
 -- Block lists with one more line.
-use Rattle.std.proofs.Common.{◌≡◌, ℕ, zero, suc, ◌+◌, ◌<◌, append-nil, List, [], ◌∷◌, ◌++◌, length, map, take, slice_get, Some, None, is_some, true≢false, add-one, arith, refl, ap, sym, ◌∙◌, append_assoc}
+use Rattle.std.proofs.Common.{◌≡◌, ℕ, zero, suc, ◌+◌, ◌<◌, append-nil, List, [], ◌∷◌, ◌++◌, length, map, take, slice_get, Some, true≢false, add-one, arith, refl, ap, sym, ◌∙◌, append_assoc}
 use Rattle.std.specs.Prelude.{unwrap_or, slice_index}
 use Rattle.std.proofs.lemmas.List.{get_or-map, length-map}
 use Rattle.std.proofs.lemmas.Option.{none-some}

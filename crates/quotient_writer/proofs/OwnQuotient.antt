@@ -1,5 +1,5 @@
 -- A system of which no two states have one label is its own quotient.
-use Rattle.std.proofs.Common.{◌≡◌, ℕ, zero, suc, ◌+◌, ◌<◌, Bool, true, false, ◌&&◌, List, [], ◌∷◌, ◌++◌, length, Some, slice_get, append_assoc, refl, sym, ap, ◌∙◌, subst, arith}
+use Rattle.std.proofs.Common.{◌≡◌, ℕ, zero, suc, ◌+◌, ◌<◌, Bool, true, false, ◌&&◌, List, [], ◌∷◌, ◌++◌, length, slice_get, append_assoc, refl, sym, ap, ◌∙◌, subst, arith}
 use Rattle.std.specs.Prelude.{◌==◌, nat_lt, slice_index, if◌then◌else◌}
 use Rattle.std.specs.List.{list_all}
 use Rattle.std.proofs.lemmas.Bool.{and_parts, ltb-true, eqb-true}
@@ -85,7 +85,8 @@ module _ (t : Nodes) (names : List (List ℕ)) (values : List Value) (b : List �
     normal = well.normal;
     in_range = subst (λ n. list_all (states_below n) values ≡ true) l.one_each well.in_range;
     equal = λ i u v at at'.
-        let below : i < length b = omega (arith, slice_get_within values i u at, l.one_each, l.covers) in
+        let below : i < length b =
+        omega (arith, slice_get_within values i u at, l.one_each, l.covers) in
         let same : u ≡ v = same_Some u v (sym at ∙ ap (slice_get values) (sym (itself i below))
         ∙ at') in
         let inside : states_below (length b) u ≡ true = subst (λ n. states_below n u ≡ true)

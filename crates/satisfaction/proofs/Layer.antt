@@ -19,13 +19,6 @@ use Rattle.typing.proofs.Weights.{coarser_sums}
 use Rattle.typing.specs.Layers.{Place, at_child}
 use Rattle.formula_checker.specs.LayerValues.{joint_with}
 
--- two tests that hold together are one
-pub same_test : (a b : Bool) → (a ≡ true → b ≡ true) → (b ≡ true → a ≡ true) → a ≡ b
-same_test true true there back = refl
-same_test true false there back = sym (there refl)
-same_test false true there back = back refl
-same_test false false there back = refl
-
 -- the test is that of a child, and the places are at it
 abbrev pub IsAtChild : (ℕ → Test) → List ℕ → Test → (List Value → List Place) → Type 0
 IsAtChild e qs test places =

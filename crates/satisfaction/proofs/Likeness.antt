@@ -9,7 +9,7 @@
 -- likeness         == so likeness is as truth asks
 -- one_truth        == each formula has one truth at equivalent states
 use Rattle.std.proofs.Common.{◌≡◌, ℕ, suc, ◌<◌, ◌==◌, Bool, true, false, ◌&&◌, ◌||◌, List, [], ◌∷◌, length, map, Contains, Option, Some, None, slice_get, refl, sym, ap, ◌∙◌, subst, inl, inr, true≢false, arith}
-use Rattle.std.specs.Prelude.{ℤ, pos, ◌+◌, ◌*◌, if◌then◌else◌, slice_index, nat_eq}
+use Rattle.std.specs.Prelude.{ℤ, ◌+◌, ◌*◌, if◌then◌else◌, slice_index, nat_eq}
 use Rattle.std.specs.List.{list_all, list_any, zip}
 use Rattle.std.specs.Option.{option_map, option_eq, option_map_or}
 use Rattle.std.specs.Cmp.{IsEquivalence}
@@ -32,7 +32,7 @@ use Rattle.typing.specs.Stable.{IsStable, AreEquivalent}
 use Rattle.typing.proofs.EqualityLaws.{eq-equivalence}
 use Rattle.typing.proofs.MapLaws.{parts_map, index_map, inner_map, entries_map, label_map, state_map, parts_below, inner_below, entries_below, state_within}
 use Rattle.typing.proofs.StableLaws.{each_of, element}
-use Rattle.typing.proofs.Tests.{same_weights-Decides}
+use Rattle.typing.proofs.Tests.{same_weights-Decides, bools_agree}
 use Rattle.formulas.specs.declared.formula.Formula.{Formula}
 use Rattle.formulas.specs.Formulas.{IsDag}
 use Rattle.formulas.specs.Truth.{Layers, holds, IsLikeness}
@@ -40,7 +40,7 @@ use Rattle.formulas.proofs.TruthLaws.{holds-like}
 use Rattle.typing.specs.Layers.{Place, at_child, child_places, is_state, is_state_at, root_at, kids}
 use Rattle.formula_checker.specs.LayerValues.{joint_with, layer_value}
 use Rattle.satisfaction.specs.Satisfaction.{layers_of, holds_in}
-use Rattle.satisfaction.proofs.Layer.{same_test, child_cases, through_child, joint_none, trits_pointwise, occurs, joint_same}
+use Rattle.satisfaction.proofs.Layer.{child_cases, through_child, joint_none, trits_pointwise, occurs, joint_same}
 use Rattle.typing.proofs.Coarser.{weight_of-moved}
 
 -- a test of relabelled values, place by place
@@ -267,7 +267,7 @@ module _
             and_parts (list_all (has (at 0) (map r vs)) (map r us))
             (list_all (has (at 0) (map r us)) (map r vs)) h in
             ap (list_any (λ x. x == k)) (ap lefts (places us) ∙ through_child f thr q us)
-            ∙ same_test (list_any (λ x. x == k) (map (left_at q) us))
+            ∙ bools_agree (list_any (λ x. x == k) (map (left_at q) us))
             (list_any (λ x. x == k) (map (right_at q) vs))
             (occurs (E q) (E_is q) D (left_at q) (right_at q) (same_at q (below q c))
             us vs hu hv (covered_at q test us vs p.0) k)

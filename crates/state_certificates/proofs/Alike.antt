@@ -14,7 +14,7 @@ use Rattle.functor_terms.specs.Terms.{Nodes, node_at}
 use Rattle.modalities.specs.declared.three.Three.{Three}
 use Rattle.modalities.specs.declared.three.Three.TheVariants.{Trit}
 use Rattle.typing.specs.declared.value.Value.{Value}
-use Rattle.typing.specs.Layers.{Place, children_of, is_state, is_state_at, root_at, kids, leaves_within}
+use Rattle.typing.specs.Layers.{Place, children_of, is_state, is_state_at, root_at, kids}
 use Rattle.typing.proofs.StableLaws.{element}
 use Rattle.sorted_systems.specs.Systems.{Sorted, IsState}
 use Rattle.decoding.specs.Decoded.{decoded_state, node_by, value_by}
@@ -31,6 +31,7 @@ use Rattle.formula_checker.specs.LayerValues.{layer_value}
 use Rattle.satisfaction.specs.Satisfaction.{layers_of}
 use Rattle.formula_builder.specs.SortedLayers.{sorted_layers}
 use Rattle.structures.proofs.Leaves.{leaves_within-children}
+use Rattle.typing.proofs.MapLaws.{mapped_at}
 
 -- an element of a map, from what it is of and back
 pub map_at :
@@ -39,13 +40,6 @@ pub map_at :
 map_at f [] i x e = absurd (cc e)
 map_at f (y ∷ xs) zero x e = let same : y ≡ x = cc e in ap (λ z. Some (f z)) same
 map_at f (y ∷ xs) (suc i) x e = map_at f xs i x e
-
-pub map_back :
-    {X Y : Type 0} (f : X → Y) (xs : List X) (i : ℕ) (y : Y) → slice_get (map f xs) i ≡ Some y →
-    (x : X) × (slice_get xs i ≡ Some x) × (f x ≡ y)
-map_back f [] i y e = absurd (cc e)
-map_back f (x ∷ xs) zero y e = (x, refl, cc e)
-map_back f (x ∷ xs) (suc i) y e = map_back f xs i y e
 
 -- lists of single elements, one after another
 singles : (xs : List Place) → flat_map (λ y. y ∷ []) xs ≡ xs
@@ -99,7 +93,7 @@ module _
       (x : ℕ) (o : Occurrence) → slice_get occurrences x ≡ Some o →
       (a : Sorted ℕ ℕ) × IsState (packed_system s) x a × (read a ≡ sorted_of t o)
   state_of x o at =
-      map_back read (packed_system s) x (sorted_of t o)
+      mapped_at read (packed_system s) x (sorted_of t o)
       (ap (λ (l : List (Sorted AnyShape AnyLabel)). slice_get l x) desorted.system
       ∙ map_at (sorted_of t) occurrences x o at)
 

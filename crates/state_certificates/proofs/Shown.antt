@@ -8,11 +8,11 @@
 -- forms, all_fit, all_writable   == so it is with each modality
 use Rattle.std.proofs.Common.{◌≡◌, ◌<◌, ◌≤◌, ◌==◌, ◌&&◌, ◌||◌, not, ◌+◌, ◌*◌, ◌^◌, ℕ, zero, suc, Bool, true, false, List, [], ◌∷◌, length, map, Option, Some, None, slice_get, refl, sym, ◌∙◌, ap, subst, inl, inr, true≢false, arith}
 use Rattle.std.specs.Prelude.{slice_index, slice_index_or, All, nat_lt, nat_le, if◌then◌else◌}
-use Rattle.std.specs.List.{list_all, list_any, zip, AllZip}
+use Rattle.std.specs.List.{list_all, list_any, zip}
 use Rattle.std.specs.Option.{option_map_or}
 use Rattle.std.proofs.lemmas.Bool.{and_parts, and_from, eq-eqb, eqb-true}
 use Rattle.std.proofs.lemmas.Bool.Decides.{nat_tests}
-use Rattle.std.proofs.lemmas.Option.{slice_get_cases, slice_get-get_or}
+use Rattle.std.proofs.lemmas.Option.{slice_get-get_or}
 use Rattle.std.proofs.lemmas.Slice.Zip.{AllZip-long}
 use Rattle.std.proofs.lemmas.List.{length-map}
 use Rattle.modalities.specs.declared.three.Three.{Three}
@@ -44,9 +44,10 @@ use Rattle.formula_builder.specs.SortedLayers.{IsShown, BlocksAreTold}
 use Rattle.state_certificates.specs.Certificates.{HaveForms}
 use Rattle.state_certificates.proofs.TermNodes.{node_known}
 use Rattle.state_certificates.proofs.Writable.{value_writable}
-use Rattle.state_certificates.proofs.Alike.{node, value, read, map_at, map_back, node_of_shape}
+use Rattle.state_certificates.proofs.Alike.{node, value, read, map_at, node_of_shape}
 use Rattle.structures.proofs.Sound.{fits_inside}
 use Rattle.structures.proofs.Leaves.{leaves_within-children}
+use Rattle.typing.proofs.MapLaws.{mapped_at}
 
 -- what fits one level
 
@@ -194,7 +195,7 @@ module _
       (o : Occurrence) × (slice_get desorted.occurrences x ≡ Some o)
       × (sorted_of t o ≡ read t d values s desorted values_of a)
   occurrence_of x a is =
-      map_back (sorted_of t) desorted.occurrences x (read t d values s desorted values_of a)
+      mapped_at (sorted_of t) desorted.occurrences x (read t d values s desorted values_of a)
       (sym (ap (λ (l : List (Sorted AnyShape AnyLabel)). slice_get l x) desorted.system)
       ∙ map_at (read t d values s desorted values_of) (packed_system s) x a is)
 
@@ -217,7 +218,8 @@ module _
   seen q v shown =
       let (o, at, same) = occurrence_of shown.place shown.state shown.is_state in
       let edges : length (children_of t (o.node, o.value)) ≡ length o.targets =
-      sym (ap (λ (ps : List Place). length ps) (leaves_within-children t (length t) (o.node, o.value)))
+      sym (ap (λ (ps : List Place). length ps)
+      (leaves_within-children t (length t) (o.node, o.value)))
       ∙ sym (AllZip-long (λ (place : Place) (y : ℕ).
       LeadsBy desorted.occurrences (numbers_below (length values)) (node_at t place.0) place y)
       _ o.targets (desorted.sorting.linked shown.place o at)) in

@@ -4,7 +4,7 @@
 -- alike            == states are in one block exactly where they are equivalent
 -- states_told      == the formula of a state holds at exactly the states equivalent to it
 -- told_apart       == so it tells the state apart from each other one
-use Rattle.std.proofs.Common.{List, ◌≡◌, ◌+◌, ◌<◌, ◌==◌, ℕ, zero, suc, false, length, slice_get, Some, refl, sym, ◌∙◌, ap, subst, arith}
+use Rattle.std.proofs.Common.{List, ◌≡◌, ◌+◌, ◌<◌, ◌==◌, ℕ, false, length, slice_get, Some, refl, sym, ◌∙◌, ap, subst, arith}
 use Rattle.std.specs.Prelude.{◌↔◌, slice_index}
 use Rattle.std.specs.Option.{option_map_or}
 use Rattle.std.proofs.lemmas.Bool.{eq-eqb, eqb-true}
@@ -21,7 +21,7 @@ use Rattle.layers.specs.Nest.{any_node, any_value}
 use Rattle.layers.specs.Meanings.{shape_of, label_of}
 use Rattle.layers.specs.declared.layers.Layers.{Layers}
 use Rattle.refiner.specs.Recorded.{Answer}
-use Rattle.structures.specs.Structures.{numbers_on, numbers_below}
+use Rattle.structures.specs.Structures.{numbers_below}
 use Rattle.desorting.specs.declared.system.System.{System}
 use Rattle.desorting.specs.Desorted.{packed_system, IsDesorted}
 use Rattle.desorting.specs.Laws.{GreatestIsEquivalence, ValuesAreOfLayers}

@@ -5,7 +5,7 @@ use Rattle.std.proofs.Common.{◌≡◌, ◌+◌, ℕ, zero, suc, true, List, []
 use Rattle.std.specs.List.{AllByRecursion}
 use Rattle.std.proofs.lemmas.List.{length-map}
 use Rattle.functor_terms.specs.declared.node.Node.{Node}
-use Rattle.functor_terms.specs.Terms.{Nodes, Part, IsPart, IsTerm, HasLabels, takes, starts, nodes_of, over, placed, node_at, children_at, depth_limit}
+use Rattle.functor_terms.specs.Terms.{Nodes, Part, IsPart, IsTerm, HasLabels, takes, nodes_of, over, placed, node_at, children_at, depth_limit}
 use Rattle.structures.proofs.Arities.{starts-length}
 
 -- a node with so many children, and with labels

@@ -3,7 +3,7 @@ use Rattle.std.proofs.Common.{◌≡◌, ℕ, zero, suc, ◌+◌, ◌-◌, Bool,
 use Rattle.std.specs.Prelude.{◌==◌, ◌||◌, if◌then◌else◌, nat_le, slice_set, drop, option_and_then}
 use Rattle.std.specs.Option.{option_map_or}
 use Rattle.std.specs.List.{list_all, list_any, AllZip}
-use Rattle.std.proofs.lemmas.Bool.{or_parts, both_ways}
+use Rattle.std.proofs.lemmas.Bool.{or_parts}
 use Rattle.std.proofs.lemmas.Option.{none-some, same_Some}
 use Rattle.std.proofs.lemmas.Slice.Zip.{AllZip-long}
 use Rattle.file_cut.specs.declared.tree.Tree.{Tree}
@@ -18,14 +18,14 @@ use Rattle.weights.specs.declared.numeral.Numeral.{Numeral}
 use Rattle.weights.specs.declared.fault.NumeralFault.{NumeralFault}
 use Rattle.weights.specs.declared.fault.NumeralFault.TheVariants as numeral_fault
 use Rattle.typing.specs.declared.kind.TypeKind.TheVariants.{NotALabel, WrongShape, WrongCount, RepeatedKey, MissingKey, BadIndex, NotANumber, Negative}
-use Rattle.fitting.specs.declared.fitted.Fitted.{Fitted, Fitted-F, out-Fitted, map-Fitted, fold_out-Fitted}
+use Rattle.fitting.specs.declared.fitted.Fitted.{Fitted, Fitted-F}
 use Rattle.fitting.specs.declared.fitted.Fitted.TheVariants as fitted
 use Rattle.fitting.specs.declared.fitted.Fitted.TheViews as shown
 use Rattle.fitting.specs.declared.fitted.Weight.{Weight}
 use Rattle.fitting.specs.declared.fitted.Weight.TheVariants as weight
 use Rattle.fitting.specs.Levels.{word, parts, branch, entries, held, key, weight_tree}
 use Rattle.fitting.specs.Fitting.{Found, Fit, needs, demands, found, made, each, no_fit, fit_at, places, number_limit, number_fit, product_fit, sum_fit, is_keyed, is_free, Slots, filled, all_held, empty_slots, power_of, power_fit, is_alone, set_of, set_fit, is_from_zero, weighed, weight_fit, has_weight, entry_fit, weights_of, weights_fit, fit_step, fitting}
-use Rattle.fitting.specs.Scaling.{is_over, over_step, over_bound}
+use Rattle.fitting.specs.Scaling.{is_over, over_bound}
 use Rattle.fitting.proofs.Inversions.{ok_same, err_ok, needs-ok, demands-ok, found-ok, made-ok}
 use Rattle.structure_writer.specs.Spelled.{fraction_if, fraction_spelled, free_number, free_weight, free_entry, free_entries, free_weights, free_step, free_fitting}
 use Rattle.fitting.proofs.FitSound.{over_out}

@@ -1,10 +1,9 @@
 -- What denotes something without the bounds fits with them, though a number may be over its bound.
-use Rattle.std.proofs.Common.{◌≡◌, ℕ, zero, suc, ◌+◌, ◌-◌, ◌*◌, ◌<◌, ◌≤◌, Bool, true, false, not, ◌&&◌, List, [], ◌∷◌, length, Option, Some, None, Ok, Err, refl, sym, ap, ◌∙◌, subst, arith, true≢false}
-use Rattle.std.specs.Prelude.{◌==◌, ◌||◌, if◌then◌else◌, nat_lt, nat_le, slice_set, drop, option_and_then, is_none, ℤ, pos, negsuc, neg_ℤ, ◌*ℤ◌, int_lt}
+use Rattle.std.proofs.Common.{◌≡◌, ℕ, zero, suc, ◌+◌, ◌-◌, ◌*◌, ◌≤◌, Bool, true, false, not, ◌&&◌, List, [], ◌∷◌, length, Option, Some, None, Ok, Err, refl, sym, ap, ◌∙◌, subst, arith, true≢false}
+use Rattle.std.specs.Prelude.{◌==◌, ◌||◌, if◌then◌else◌, nat_lt, nat_le, slice_set, drop, option_and_then, is_none, ℤ, pos, negsuc, ◌*ℤ◌, int_lt}
 use Rattle.std.specs.Option.{option_map_or}
 use Rattle.std.specs.List.{list_all, AllZip}
-use Rattle.std.proofs.lemmas.Bool.{and_parts, ltb-true}
-use Rattle.std.proofs.Math.Nat.{mul-pos, one-le-pow}
+use Rattle.std.proofs.Math.Nat.{mul-pos}
 use Rattle.std.proofs.lemmas.Option.{none-some}
 use Rattle.std.proofs.lemmas.Slice.Zip.{AllZip-long}
 use Rattle.file_cut.specs.declared.tree.Tree.{Tree}
@@ -15,7 +14,7 @@ use Rattle.functor_terms.specs.declared.node.LabelSet.{LabelSet}
 use Rattle.functor_terms.specs.Terms.{Nodes, label_number, number_below}
 use Rattle.functor_terms.proofs.Folds.{fold-related}
 use Rattle.weights.specs.Fractions.{IsLowest}
-use Rattle.weights.specs.Numerals.{Form, Whole, Over, Decimal, is_form, denominator_of, without_end_zeros, is_within, is_below_zero, signed, numerator_of, fraction_of, is_digits, number_of, form_of, has_sign, form_reading, bounded_reading, reading_of}
+use Rattle.weights.specs.Numerals.{Form, is_form, denominator_of, is_within, is_below_zero, signed, numerator_of, fraction_of, is_digits, number_of, form_of, has_sign, form_reading, bounded_reading, reading_of}
 use Rattle.weights.specs.FractionLaws.{lowest_terms-IsLowest, never_negative}
 use Rattle.weights.specs.declared.numeral.Numeral.{Numeral}
 use Rattle.weights.specs.declared.fault.NumeralFault.TheVariants as numeral_fault

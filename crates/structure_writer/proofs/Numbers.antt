@@ -19,7 +19,7 @@ use Rattle.weights.specs.FractionLaws.{ratio, gcd_of-IsGcd, lowest_terms-IsLowes
 use Rattle.weights.specs.FractionText.{SpellsFraction}
 use Rattle.weights.specs.FractionTextLaws.{text_of_fraction-spells, decimal_is_digits}
 use Rattle.weights.specs.NumeralLaws.{cut_from_Spells, in_digits}
-use Rattle.weights.specs.Numerals.{Form, Whole, Over, Decimal, minus, point, slash, text_of_form, is_form, is_digits, number_after, number_of, signed_text, signed, numerator_of, denominator_of, numeral, fraction_of, has_sign, form_of}
+use Rattle.weights.specs.Numerals.{Form, Whole, Over, Decimal, minus, point, slash, text_of_form, is_form, is_digits, number_after, number_of, signed_text, numeral, fraction_of, has_sign}
 use Rattle.weights.specs.Numerals as numerals
 use Rattle.weights.specs.declared.numeral.Numeral.{Numeral}
 use Rattle.weights.specs.declared.ratio.Ratio.{Ratio}

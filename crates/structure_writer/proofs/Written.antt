@@ -24,7 +24,7 @@ use Rattle.typing.specs.Fits.{Check, check_at, fits_level, fits_step}
 use Rattle.typing.specs.Bounds.{is_within, weights_step}
 use Rattle.typing.proofs.MapLaws.{state_within}
 use Rattle.typing.proofs.NormalLaws.{same_value, state_shape}
-use Rattle.fitting.specs.declared.fitted.Fitted.{Fitted, Fitted-F, out-Fitted, map-Fitted, fold_out-Fitted}
+use Rattle.fitting.specs.declared.fitted.Fitted.{Fitted, Fitted-F, out-Fitted, map-Fitted}
 use Rattle.fitting.specs.declared.fitted.Fitted.TheVariants as fitted
 use Rattle.fitting.specs.declared.fitted.Fitted.TheViews as shown
 use Rattle.fitting.specs.declared.fitted.Weight.{Weight}

@@ -1,12 +1,11 @@
 -- Values at the k-th of some nodes: all of them where there is such a node, and else none.
-use Rattle.std.proofs.Common.{◌≡◌, ℕ, zero, suc, ◌-◌, ◌<◌, ◌≤◌, false, List, [], ◌∷◌, length, map, Contains, refl, sym, ap, ◌∙◌, arith}
-use Rattle.std.specs.Prelude.{◌⊎◌, ◌==◌, slice_index, if◌then◌else◌}
-use Rattle.std.proofs.lemmas.Bool.Decides.{nat_tests}
+use Rattle.std.proofs.Common.{◌≡◌, ℕ, zero, suc, ◌-◌, ◌<◌, ◌≤◌, List, [], ◌∷◌, length, map, Contains, refl, sym, ap, ◌∙◌, arith}
+use Rattle.std.specs.Prelude.{slice_index, if◌then◌else◌}
 use Rattle.std.proofs.lemmas.List.{length-map}
-use Rattle.std.proofs.lemmas.Bool.{cases_lt}
 use Rattle.typing.specs.declared.value.Value.{Value}
 use Rattle.typing.specs.Layers.{Place, at_child}
 use Rattle.typing.proofs.TermFacts.{not_zero}
+use Rattle.functor_terms.proofs.Folds.{first_in, rest_in}
 
 -- the values at one node
 abbrev pub at_node : ℕ → List Value → List Place
@@ -34,13 +33,6 @@ at_child-past [] k us h = refl
 at_child-past (q ∷ qs) zero us h = absurd (omega arith)
 at_child-past (q ∷ qs) (suc k) us h =
     at_child-next q qs k us ∙ at_child-past qs k us (omega arith)
-
--- the first of a list is in it, and so is each of the rest
-pub first_in : {X : Type 0} (x : X) (xs : List X) → Contains (x ∷ xs) x
-first_in x xs = (0, omega arith, refl)
-
-pub rest_in : {X : Type 0} (x : X) (xs : List X) (y : X) → Contains xs y → Contains (x ∷ xs) y
-rest_in x xs y h = let (k, below, same) = h in (suc k, omega (arith, below), same)
 
 pub picked_in : (qs : List ℕ) (k : ℕ) → k < length qs → Contains qs (slice_index qs k)
 picked_in [] k h = absurd (omega arith)

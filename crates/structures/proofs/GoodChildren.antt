@@ -1,5 +1,5 @@
 -- The children of a structure that fits: they fit, and their nodes are later.
-use Rattle.std.proofs.Common.{◌≡◌, ℕ, zero, suc, ◌-◌, ◌<◌, Bool, true, false, List, [], ◌∷◌, length, map, Some, None, slice_get, Contains, refl, sym, ap, ◌∙◌, subst, true≢false, ⊎_elim, arith}
+use Rattle.std.proofs.Common.{◌≡◌, ℕ, zero, suc, ◌-◌, ◌<◌, Bool, true, false, List, [], ◌∷◌, length, map, Some, slice_get, Contains, refl, sym, ap, ◌∙◌, subst, true≢false, ⊎_elim, arith}
 use Rattle.std.specs.Prelude.{ℤ, slice_index, ◌==◌, if◌then◌else◌}
 use Rattle.std.specs.List.{list_all, zip}
 use Rattle.std.proofs.lemmas.Bool.{and_parts, and_from, cases_lt}
@@ -14,8 +14,9 @@ use Rattle.typing.specs.declared.value.Value.{Value, Value-F, out-Value}
 use Rattle.typing.specs.Values.{index, inner, parts, entries, parts_in, inner_in, index_in, entries_in}
 use Rattle.typing.specs.Fits.{Check, fits_level, fits_step, check_at, each_fits}
 use Rattle.typing.specs.Layers.{Place, at_child, weighed, child_places}
-use Rattle.structures.proofs.AtChild.{at_child-within, at_child-past, first_in, rest_in, picked_in}
+use Rattle.structures.proofs.AtChild.{at_child-within, at_child-past, picked_in}
 use Rattle.typing.proofs.TermFacts.{not_zero}
+use Rattle.functor_terms.proofs.Folds.{first_in, rest_in}
 
 -- what passes the k-th check shows that there is one
 pub check_within : (fs : List Check) (k : ℕ) (v : Value) → check_at fs k v ≡ true → k < length fs

@@ -8,7 +8,6 @@ pub mod GoodChildren
 pub mod Leaves
 pub mod Sound
 pub mod WalkEnds
-
 -- Crates above do not cite these.
 mod ChildAt
 mod Unmerged

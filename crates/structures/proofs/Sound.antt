@@ -1,8 +1,8 @@
 -- Structures that fit, with state numbers and weights slice_get_within their bounds: so are their children.
-use Rattle.std.proofs.Common.{◌≡◌, ℕ, zero, suc, ◌+◌, ◌<◌, ◌≤◌, ◌^◌, Bool, true, false, not, cond, List, [], ◌∷◌, ◌++◌, length, map, drop, Some, None, slice_get, Contains, refl, sym, ap, ◌∙◌, subst, true≢false, ⊎_elim, inl, inr, arith, append_assoc, length-append}
+use Rattle.std.proofs.Common.{◌≡◌, ℕ, zero, suc, ◌+◌, ◌<◌, ◌≤◌, ◌^◌, Bool, true, false, not, cond, List, [], ◌∷◌, ◌++◌, length, map, drop, Some, slice_get, Contains, refl, sym, ap, ◌∙◌, subst, true≢false, ⊎_elim, inl, inr, arith, append_assoc, length-append}
 use Rattle.std.specs.Prelude.{◌⊎◌, filter, unwrap_or}
 use Rattle.std.specs.List.{list_all, AllZip}
-use Rattle.std.proofs.lemmas.Option.{slice_get_past, slice_get_cases, same_Some, none-some, slice_get_within}
+use Rattle.std.proofs.lemmas.Option.{slice_get_past, slice_get_cases, same_Some, none-some}
 use Rattle.functor_terms.specs.declared.node.Node.{Node}
 use Rattle.functor_terms.specs.declared.node.Node.TheVariants.{State}
 use Rattle.functor_terms.specs.Terms.{Nodes, IsTerm, node_at, children_at, fold_within}

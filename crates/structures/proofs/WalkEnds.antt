@@ -1,5 +1,5 @@
 -- What the walk has found when it has come to the end.
-use Rattle.std.proofs.Common.{◌≡◌, ℕ, zero, suc, ◌+◌, ◌<◌, ◌≤◌, ◌^◌, true, List, [], ◌∷◌, length, map, take, drop, Some, slice_get, refl, sym, ap, ◌∙◌, subst, arith, All, AllPairs}
+use Rattle.std.proofs.Common.{◌≡◌, ℕ, zero, suc, ◌+◌, ◌<◌, ◌≤◌, ◌^◌, true, List, [], ◌∷◌, length, map, drop, Some, slice_get, refl, sym, ap, ◌∙◌, subst, arith, All, AllPairs}
 use Rattle.std.specs.Prelude.{slice_index}
 use Rattle.std.specs.List.{AllZip}
 use Rattle.std.proofs.lemmas.Option.{same_Some, none-some, slice_get_within}
@@ -132,7 +132,9 @@ module _
   }
 
   walked_sources : sources ≡ sources_from t 0 places
-  walked_sources = walked.by_source ∙ ap (λ l. sources_from t 0 l) (take_all (length places) places (omega arith))
+  walked_sources =
+      walked.by_source
+      ∙ ap (λ l. sources_from t 0 l) (take_all (length places) places (omega arith))
 
   pub walked_end :
       length places < 2 ^ 26 → length targets < 2 ^ 26 →

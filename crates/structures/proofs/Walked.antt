@@ -17,8 +17,6 @@ use Rattle.structures.specs.Walk.{targets_of, LeadsTo, IsWalked}
 use Rattle.structures.proofs.Expands.{drop_at, append_none}
 use Rattle.structures.proofs.Chosen.{length-repeated, chosen-append, chosen-repeated, chosen-other, chosen-past, sources-snoc, take_next, later_test}
 use Rattle.structures.proofs.Sound.{IsSound, kept_at, either_at, layer_at, first_part, drop-append, added-append, kid_sound, layer_later, over-at, all_kept, kids_lead, fits_inside}
-use Rattle.std.proofs.lemmas.Bool.Decides.{nat_tests}
-use Rattle.std.specs.Prelude.{◌==◌}
 use Rattle.std.proofs.lemmas.Option.{same_Some, none-some, slice_get_within}
 
 length-take : {X : Type 0} (xs : List X) (i : ℕ) → i ≤ length xs → length (take i xs) ≡ i

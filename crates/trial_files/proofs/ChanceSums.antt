@@ -14,12 +14,12 @@ use Rattle.typing.specs.declared.value.Value.TheVariants as value
 use Rattle.typing.specs.declared.value.Value.TheViews.{outs-Tuple, outs-Weights}
 use Rattle.typing.specs.Values.{parts_in, entries_in}
 use Rattle.typing.specs.Bounds.{are_any, joint_weight, each_holds, entries_hold, sums_hold}
-use Rattle.fitting.specs.declared.fitted.Fitted.{Fitted, Fitted-F, out-Fitted, map-Fitted, fold_out-Fitted}
+use Rattle.fitting.specs.declared.fitted.Fitted.{Fitted, Fitted-F}
 use Rattle.fitting.specs.declared.fitted.Fitted.TheVariants as fitted
 use Rattle.fitting.specs.declared.fitted.Fitted.TheViews as shown
 use Rattle.fitting.specs.declared.fitted.Weight.{Weight}
 use Rattle.fitting.specs.declared.fitted.Weight.TheVariants as weight
-use Rattle.fitting.specs.Scaling.{denominators, denominators_step, scaled, scaled_level, scaled_entries, has_sums}
+use Rattle.fitting.specs.Scaling.{denominators, scaled, scaled_level, scaled_entries, has_sums}
 use Rattle.structure_writer.specs.Spelled.{DividesAll}
 use Rattle.trial_texts.specs.declared.kind.TrialKind.TheVariants.{Chain}
 use Rattle.trial_files.proofs.Terms.{term_of}

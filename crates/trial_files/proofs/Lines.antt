@@ -1,23 +1,17 @@
 -- Lines of names and structures as rows.
-use Rattle.std.proofs.Common.{◌≡◌, ℕ, ◌+◌, Bool, true, false, not, List, [], ◌∷◌, ◌++◌, length, append_assoc, append-nil, refl, sym, ap, ◌∙◌, subst, arith, true≢false}
-use Rattle.std.specs.Prelude.{◌==◌, codes, if◌then◌else◌}
+use Rattle.std.proofs.Common.{◌≡◌, ℕ, ◌+◌, true, List, [], ◌∷◌, ◌++◌, length, append_assoc, append-nil, refl, sym, ap, ◌∙◌, subst, arith, true≢false}
+use Rattle.std.specs.Prelude.{codes, if◌then◌else◌}
 use Rattle.std.specs.List.{list_all, AllByRecursion, AllZip}
-use Rattle.std.proofs.lemmas.Bool.{and_parts, not-true}
-use Rattle.std.proofs.lemmas.Bool.Decides.{nat_tests}
-use Rattle.std.proofs.lemmas.List.{length-append}
-use Rattle.file_cut.specs.Bytes.{IsName, is_word_byte, number_sign, line_feed, carriage_return}
-use Rattle.file_cut.specs.Lines.{Numbered, begun, raw_lines, is_skipped, without_return, numbered_line, lines_from}
+use Rattle.file_cut.specs.Bytes.{IsName}
+use Rattle.file_cut.specs.Lines.{Numbered, numbered_line, lines_from}
 use Rattle.file_cut.specs.Tokens.{marks}
 use Rattle.file_cut.specs.Trees.{SpellsLine}
 use Rattle.file_cut.specs.declared.mark.Mark.TheVariants.{Word, Colon}
 use Rattle.file_cut.specs.declared.tree.Tree.{Tree}
-use Rattle.file_cut.proofs.LineLaws.{lines-take}
-use Rattle.file_cut.proofs.TokenLaws.{blank_ends}
 use Rattle.structure_parser.specs.Rows.{Row, row, IsRowOf}
-use Rattle.structure_parser.specs.Stages.{heads_of}
 use Rattle.structure_writer.specs.Text.{paired}
 use Rattle.structure_writer.proofs.Marks.{Lexes, IsTextOf, colon-lexes, name-marks, is_plain, word-plain, both-plain}
-use Rattle.structure_writer.proofs.TextSpells.{name_unskipped, raw_first, untrimmed, note_ends, first_line, heads_are}
+use Rattle.structure_writer.proofs.TextSpells.{name_unskipped, first_line}
 
 -- ---- rows
 

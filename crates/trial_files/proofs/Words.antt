@@ -16,13 +16,13 @@ use Rattle.functor_terms.specs.Terms.{label_number}
 use Rattle.functor_terms.specs.Words.{place_of}
 use Rattle.weights.specs.Numerals.{reading_of}
 use Rattle.typing.specs.declared.kind.TypeKind.TheVariants.{UnknownState, NotALabel, WrongShape, WrongCount}
-use Rattle.fitting.specs.declared.fitted.Fitted.{Fitted, Fitted-F, out-Fitted, map-Fitted, fold_out-Fitted}
+use Rattle.fitting.specs.declared.fitted.Fitted.{Fitted, Fitted-F}
 use Rattle.fitting.specs.declared.fitted.Fitted.TheVariants as fitted
 use Rattle.fitting.specs.declared.fitted.Fitted.TheViews as shown
 use Rattle.fitting.specs.declared.fitted.Weight.{Weight}
 use Rattle.fitting.specs.Levels.{parts_in, entries_in, held, weight_tree}
 use Rattle.fitting.specs.Fitting.{Fit, needs, demands, found, made, each, places, state_fit, label_fit, product_fit, is_alone, set_of, set_fit, weighed, weight_fit, has_weight, entry_fit, weights_of, weights_fit}
-use Rattle.fitting.specs.Scaling.{over_step, over_bound, is_over, denominator_of}
+use Rattle.fitting.specs.Scaling.{over_bound, is_over, denominator_of}
 use Rattle.structure_writer.specs.Spelled.{DividesAll}
 use Rattle.structure_writer.proofs.Written.{alone_held, alone_weight, paired_held, paired_weight, word_word, divides_of, all_divide, entries_divide, EntryDivides}
 use Rattle.fitting.proofs.FitSound.{over_out}

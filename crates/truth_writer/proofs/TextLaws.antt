@@ -6,8 +6,7 @@
 -- length-texts     == there is a text for each state
 -- line_more        == one state more has the line
 -- texts_all        == all states have the line
-use Rattle.std.proofs.Common.{◌≡◌, ℕ, Bor, zero, suc, ◌+◌, Bool, List, [], ◌∷◌, ◌++◌, length, take, replicate, set, get_or, slice_get, Some, refl, ap, sym, ◌∙◌, add-one, arith}
-use Rattle.std.proofs.lemmas.List.{take-append-le, take_all}
+use Rattle.std.proofs.Common.{◌≡◌, ℕ, Bor, zero, suc, ◌+◌, Bool, List, [], ◌∷◌, ◌++◌, length, replicate, set, get_or, slice_get, Some, refl, ap, sym, ◌∙◌, add-one, arith}
 use Rattle.std.proofs.lemmas.Option.{none-some, same_Some}
 use Rattle.truth_writer.specs.Truths.{truth_line, lines_at, texts_at}
 

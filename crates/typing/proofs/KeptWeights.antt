@@ -1,8 +1,7 @@
 -- A normal form keeps what the weights of the relabelled value hold to.
 use Rattle.std.proofs.Common.{◌≡◌, ℕ, zero, suc, ◌+◌, ◌-◌, Bool, true, false, not, ◌&&◌, ◌||◌, List, [], ◌∷◌, length, map, Option, Some, None, slice_get, refl, sym, ap, ◌∙◌, subst, true≢false, arith, ⊎_elim}
 use Rattle.std.specs.Prelude.{ℤ, pos, ◌==◌, nat_le, int_lt, unsigned_abs, if◌then◌else◌}
-use Rattle.std.specs.declared.cmp.Ordering.{Ordering}
-use Rattle.std.specs.declared.cmp.Ordering.TheVariants.{Less, Equal, Greater}
+use Rattle.std.specs.declared.cmp.Ordering.TheVariants.{Equal}
 use Rattle.std.specs.Ordering.{is_lt, int_eq}
 use Rattle.std.specs.Option.{option_map_or}
 use Rattle.std.specs.Cmp.{tied_itself}
@@ -26,7 +25,6 @@ use Rattle.typing.specs.Order.{Form, no_form, form_at, ascends, each_normal, is_
 use Rattle.typing.specs.NormalForms.{IsRelabelledAt}
 use Rattle.typing.proofs.Tests.{same_weights-Decides, weight_of-none}
 use Rattle.typing.proofs.MapLaws.{parts_map, index_map, inner_map, entries_map}
-use Rattle.typing.proofs.Coarser.{all_where}
 use Rattle.typing.proofs.NormalLaws.{IsCanonical, none_canonical, step_canonical, set_shape, product_shape, power_shape, sum_shape, weight_shape, IsWeighted, bag_weighted, distribution_weighted, integers_weighted, rationals_weighted}
 use Rattle.functor_terms.specs.Lists.{Zip3}
 use Rattle.typing.proofs.WeightTests.{positive-from_zero, sums-weaker}

@@ -1,11 +1,12 @@
 -- What replacing states does to each part of a value.
-use Rattle.std.proofs.Common.{◌≡◌, ℕ, Bool, true, List, map, refl, sym, ap, ◌∙◌}
+use Rattle.std.proofs.Common.{◌≡◌, ℕ, zero, suc, Bool, true, List, [], ◌∷◌, map, slice_get, refl, sym, ap, ◌∙◌}
 use Rattle.std.specs.Prelude.{ℤ, slice_index, nat_lt}
-use Rattle.std.specs.Prelude.{Some, None, unwrap_or, ◌<◌}
+use Rattle.std.specs.Prelude.{Some, unwrap_or, ◌<◌}
 use Rattle.std.specs.Option.{option_map}
 use Rattle.std.proofs.lemmas.Bool.{ltb-true}
 use Rattle.std.specs.List.{list_all}
 use Rattle.std.proofs.lemmas.List.Folds.{list_all-map}
+use Rattle.std.proofs.lemmas.Option.{none-some, same_Some}
 use Rattle.typing.specs.declared.value.Value.{Value, Value-F, out-Value, fold_out-Value, map-Value, out-roll-Value}
 use Rattle.typing.specs.declared.value.Value.TheViews.{outs-State}
 use Rattle.typing.specs.Values.{index_in, inner_in, parts_in, entries_in, label_in, state_in, label, state, index, inner, parts, entries, relabelled_step, relabelled, below_step, states_below}
@@ -101,9 +102,6 @@ state_map b v = ap state_in (out_map b v) ∙ by (out-Value v)
     by (Value-F.Inj k v) = refl
     by (Value-F.Weights es) = refl
 
-none_some : (i : ℕ) → None ≡ Some i → ⊥
-none_some i e = cc
-
 -- What is below n in a value is so in each part.
 abbrev pub layer_below : ℕ → Value-F Value → Bool
 layer_below n x = below_step n (map-Value Value Bool (states_below n) x)
@@ -155,8 +153,15 @@ state_within n v h = by (out-Value v) (sym (below_out n v) ∙ h)
   where
     by : (x : Value-F Value) → layer_below n x ≡ true → (i : ℕ) → state_in x ≡ Some i → i < n
     by (Value-F.State j) h i e = ltb-true i n (sym (ap (λ o. nat_lt (unwrap_or o 0) n) e) ∙ h)
-    by (Value-F.Tuple vs) h i e = absurd (none_some i e)
-    by (Value-F.Set vs) h i e = absurd (none_some i e)
-    by (Value-F.Label k) h i e = absurd (none_some i e)
-    by (Value-F.Inj k v) h i e = absurd (none_some i e)
-    by (Value-F.Weights es) h i e = absurd (none_some i e)
+    by (Value-F.Tuple vs) h i e = absurd (none-some i e)
+    by (Value-F.Set vs) h i e = absurd (none-some i e)
+    by (Value-F.Label k) h i e = absurd (none-some i e)
+    by (Value-F.Inj k v) h i e = absurd (none-some i e)
+    by (Value-F.Weights es) h i e = absurd (none-some i e)
+
+-- an element of images is the image of one
+pub mapped_at : {X Y : Type 0} (f : X → Y) (xs : List X) (i : ℕ) (y : Y)
+    → slice_get (map f xs) i ≡ Some y → (x : X) × (slice_get xs i ≡ Some x) × (f x ≡ y)
+mapped_at f [] i y e = absurd (none-some y e)
+mapped_at f (x ∷ xs) zero y e = (x, refl, same_Some (f x) y e)
+mapped_at f (x ∷ xs) (suc i) y e = mapped_at f xs i y e

@@ -38,8 +38,8 @@ returns-in_ok-minimal_output-in-Minimise-clause-made g c =
       make-of-one (met (g.F.Folder.files c.args.folder.now) faults faults) c.args.file.now
           (content_of c.args.c.now) c.requires.read (denoted_task c.args.task.now)
           (Task.Minimise c.in-Minimise.stats) (ap denoted_task c.in-Minimise.is) refl
-          (λ files is. is) refl rise c.in_ok-minimal_output-in-Minimise.field-0.items prints (λ name. refl) _ _
-          c.done-in-Minimise.ensures.done c.done-in-Minimise.ensures.same,
+          (λ files is. is) refl rise c.in_ok-minimal_output-in-Minimise.field-0.items prints
+          (λ name. refl) _ _ c.done-in-Minimise.ensures.done c.done-in-Minimise.ensures.same,
     )
 
 pub returns-in_ok-certified_output-in-Certify-clause-made :

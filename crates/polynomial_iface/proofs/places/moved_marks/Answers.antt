@@ -1,6 +1,5 @@
-use Rattle.std.proofs.Common.{◌∙◌, ◌==◌, ap, length, map, min}
+use Rattle.std.proofs.Common.{◌∙◌, ap, length, map, min}
 use Rattle.std.proofs.lemmas.List.{length-map}
-use Rattle.polynomial_iface.specs.Polys.{value_of_form}
 use Rattle.polynomial_iface.specs.Places.{trits_from}
 use Rattle.polynomial_iface.proofs.Told.{length-trits_from}
 use Rattle.polynomial_iface.proofs.places.moved_marks.Goals as goal

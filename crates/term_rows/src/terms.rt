@@ -1,6 +1,6 @@
 //! What no clause says: that terms, labels and lines come out as worked by hand, with ample memory.
 use crate::tables::{Built, PAST, READ, REFUSED, STRAY, WITHIN};
-use crate::{LabelSet, Node, PartFault, Term, TermFault, TermPart, read_term, term_text};
+use functor_terms::{LabelSet, Node, PartFault, Term, TermFault, TermPart, read_term, term_text};
 use itoa::Buffer;
 use std::alloc::{AllocError, Global};
 use std::process::Abort;

@@ -1,5 +1,5 @@
 //! What the grammar says of lines that were worked out by hand.
-use super::*;
+use formula_text::{DagFault, dag_text, read_answers, read_certificate};
 use std::alloc::{AllocError, Global};
 
 /// The number of the first bad line where a line stands behind two formulas, and 0 if all are good.

@@ -1,8 +1,5 @@
 //! What the grammar says of texts that were worked out by hand.
-use crate::cut::{cut_line, cut_tree};
-use crate::line::lines;
-use crate::token::tokens;
-use crate::tree::Tree;
+use file_cut::{Tree, cut_line, cut_tree, lines, tokens};
 use std::alloc::{AllocError, Global};
 use std::test::Fail;
 
