@@ -1,6 +1,7 @@
 -- What holds of three things holds of what is equal to them.
 use Rattle.std.proofs.Common.{◌≡◌, subst}
 
+-- what holds of three things holds of what equals them
 pub along :
     {A B C : Type 0} (P : A → B → C → Type 0) {a x : A} {b y : B} {c z : C} →
     a ≡ x → b ≡ y → c ≡ z → P a b c → P x y z

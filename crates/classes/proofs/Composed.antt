@@ -98,6 +98,7 @@ module _
     inside : (i : ℕ) → i < length firsts → i < n
     inside i h = subst (λ m. i < m) are.count h
 
+    -- every stable list refines the list of first states
     pub firsts_coarsest :
         (c : List ℕ) → coalgebra.IsStable t values c → coalgebra.Refines c firsts
     firsts_coarsest c stable i j hi hj same =
@@ -110,6 +111,7 @@ module _
         met i j (inside i hi) (inside j hj)
         (sym (label i (inside i hi)) ∙ same ∙ label j (inside j hj))
 
+    -- the list of first states is stable
     pub firsts_stable : coalgebra.IsStable t values firsts
     unfolding under
     firsts_stable = record {
@@ -122,6 +124,7 @@ module _
           (label i hi ∙ apart i j hi hj same ∙ sym (label j hj)));
     }
 
+    -- each state's entry is the first state that is equivalent to it
     pub firsts_first : (i : ℕ) → i < n → coalgebra.IsFirst t values i (slice_index firsts i)
     firsts_first i h =
         let here = are.each i h in

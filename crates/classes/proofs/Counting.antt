@@ -35,6 +35,7 @@ module _ (c : Content) (s : System) (desorted : IsDesorted c.term c.values c.den
   abbrev occurrences : List Occurrence
   occurrences = desorted.occurrences
 
+  -- what a coalgebra is sorted into is packed
   pub is_packed : SortedStatesAreASystem → IsTerm c.term → IsPacked s
   is_packed law is_term =
       system_from_decoded (shape_of s.iface.shapes.items)
@@ -64,6 +65,7 @@ module _ (c : Content) (s : System) (desorted : IsDesorted c.term c.values c.den
       ∙ length-system 0 s.shapes.items s.store.edges ∙ s.one_shape
 
   module _ (r : Answer) (refined : IsRefined s r) where
+    -- the labelling is the greatest stable one of the sorted states
     pub great : IsGreatestStable any_agree (sorted_system c.term occurrences) r.block_of
     great =
         subst (λ sys. IsGreatestStable any_agree sys r.block_of) desorted.system
@@ -101,6 +103,7 @@ module _ (c : Content) (s : System) (desorted : IsDesorted c.term c.values c.den
       scans_same : scans_of_targets r.scans occurrences ≡ scanned r.scans s.store.edges
       scans_same = by_states (λ y. slice_index r.scans y)
 
+      -- the counts that are told are those of the definition
       pub counted : IsCounted c s.store.states (length s.store.edges) r.labels
       counted = record {
         occurrences = occurrences;

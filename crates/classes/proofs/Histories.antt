@@ -152,6 +152,7 @@ module _
   rounds_decoded number m (after ∷ later) (r ∷ rounds) k =
       (round_decoded number m after r k.0, rounds_decoded (number + 1) after later rounds k.1)
 
+  -- a history that is legal over the system is legal over what it decodes to
   pub legal_decoded :
       (refined : Answer) (first : Moment) (later : List Moment) →
       IsLegal own_node own_value system refined first later →

@@ -103,6 +103,7 @@ module _
   put : slice_index after k ≡ first
   put = set_same known k first (omega (arith, marked.rooms, inside))
 
+  -- one more entry is marked with the first of its block
   pub marked_more : AreMarked labels blocks n (i + 1) after (firsts ++ first ∷ [])
   marked_more = record {
     rooms = set_length known k first ∙ marked.rooms;

@@ -3,6 +3,7 @@ use Rattle.std.proofs.Common.{◌≡◌, ℕ, List, [], ◌∷◌, length, map, 
 use Rattle.std.proofs.lemmas.List.Sums.{sum_by-cons}
 use Rattle.structures.specs.Structures.{Occurrence}
 
+-- a sum over images is a sum of the function behind
 pub sum_by-map :
     {X Y : Type 0} (g : Y → ℕ) (f : X → Y) (xs : List X) →
     sum_by g (map f xs) ≡ sum_by (λ x. g (f x)) xs
@@ -13,6 +14,7 @@ sum_by-map g f (x ∷ xs) =
     let two = sum_by-cons (λ y. g (f y)) x xs in
     omega (arith, rest, one, two)
 
+-- ones sum to the length
 pub sum_by-one : {X : Type 0} (xs : List X) → sum_by (λ (x : X). 1) xs ≡ length xs
 sum_by-one [] = refl
 sum_by-one {X} (x ∷ xs) =
@@ -20,6 +22,7 @@ sum_by-one {X} (x ∷ xs) =
     let one = sum_by-cons (λ (y : X). 1) x xs in
     omega (arith, rest, one)
 
+-- one for each target of each occurrence is the number of edges
 pub ones_of_targets :
     (os : List Occurrence) →
     sum_by (λ (o : Occurrence). sum_by (λ (y : ℕ). 1) o.targets) os

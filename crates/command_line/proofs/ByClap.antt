@@ -14,6 +14,7 @@ pub simple-and-free : is_simple_and_free copar_app ≡ true
 unfolding clap_on_literals
 simple-and-free = refl
 
+-- what clap is told of the command line is simple
 pub simple : is_simple copar_app ≡ true
 unfolding clap_on_literals
 simple = refl
@@ -41,6 +42,7 @@ pub first-in : (found : Found) (id : Text) (got : Option (Bor Text)) (was : Opti
     → option_map (λ s. s.now) got ≡ was → first_of id (rows_of found) ≡ was
 first-in found id got was e is = sym (first_value-rows found id) ∙ sym e ∙ is
 
+-- what clap found for an argument is all of its words
 pub all-in :
     (found : Found) (id : Text) (got : Option (Bor (List (Bor Text)))) (was : Option (List Text))
     → option_map (λ s. map (λ v. v.now) s.now) got ≡ option_map raw_values (matched_of found id)

@@ -278,11 +278,13 @@ plain-walk a f (r ∷ n ∷ rest) p =
       subst (Ends (in_rest a f us l) a f) same (ends-more a f us l),
     )
 
+-- words without a flag are taken where they are of a row of the table
 pub plain-taken : PlainWordsAreTaken
 plain-taken a f rest p =
     let (w, walks, ends) = plain-walk a f rest p in
     line-walked (a ∷ f ∷ rest) w walks ends.bare ∙ ap (λ line. Some line) ends.line
 
+-- words with a flag are taken where they are of a row of the table
 pub flagged-taken : FlaggedWordsAreTaken
 flagged-taken a f rest p =
     let (w, walks, ends) = plain-walk a f rest p in

@@ -136,6 +136,7 @@ module _ (o : Outside) where
         if-some (λ files. Holds files name bytes) (λ files. Denotes files name c) o.files
         (λ files holds. (bytes, holds, reads)) there
 
+    -- a file that spells a coalgebra passes the reading
     pub read-file : (c : Content) → Reads bytes c → Passes o (Stage.ReadFile name)
     read-file c reads =
         if-some (λ files. Denotes files name c) (λ files. Clear files (Stage.ReadFile name)) o.files
@@ -364,6 +365,7 @@ pub end-written : (request : Request) (o : Outside) (w : Counts) (rise : ℕ) (e
 end-written request o w rise ending output made written =
     Ends.Worked ending output made.passes made.answers (inl (refl, refl, written)) made.read
 
+-- a write that failed ends the run with its own status
 pub end-failed : (request : Request) (o : Outside) (w : Counts) (rise : ℕ) (ending : Status)
     (output : List ℕ) (n : ℕ) → IsMade request (stages_of request) o rise ending output
     → Rose w.before w.now → Ends request o w rise WriteFault (take n output)

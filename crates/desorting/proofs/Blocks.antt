@@ -3,11 +3,11 @@ use Rattle.std.proofs.Common.{◌≡◌, ℕ, ◌+◌, ◌<◌, List, [], ◌∷
 use Rattle.std.specs.Prelude.{◌⊎◌}
 use Rattle.std.specs.List.{AllZip}
 use Rattle.std.proofs.lemmas.Option.{same_Some, none-some, slice_get_within}
+use Rattle.std.proofs.lemmas.List.{append-nil}
 use Rattle.functor_terms.specs.Terms.{Nodes}
 use Rattle.typing.specs.Layers.{Place, leaves_of}
 use Rattle.edge_store.specs.Edges.{chosen}
 use Rattle.structures.specs.Structures.{repeated, sources_from}
-use Rattle.structures.proofs.Expands.{append_none}
 use Rattle.structures.proofs.Chosen.{length-repeated, chosen-append, chosen-repeated, chosen-other, chosen-past, sources-snoc}
 use Rattle.structures.proofs.Sound.{first_part}
 use Rattle.desorting.specs.Numbered.{AreBlocks}
@@ -52,7 +52,7 @@ module _ {X : Type 0} (t : Nodes) (R : Place → List X → Type 0) where
         ∙ ap (λ l. chosen y (sources_from t 0 places) xs ++ l)
         (chosen-other y (0 + length places) (length (leaves_of t x)) ys
         (later_test (0 + length places) y (omega (arith, h))))
-        ∙ append_none (chosen y (sources_from t 0 places) xs) in
+        ∙ append-nil (chosen y (sources_from t 0 places) xs) in
         subst (R z) (sym kept) (blocks.each y z (first_part places (x ∷ []) y z h e))
 
     now :
@@ -71,6 +71,7 @@ module _ {X : Type 0} (t : Nodes) (R : Place → List X → Type 0) where
         subst (λ w. R w (chosen y (sources_from t 0 all) (xs ++ ys))) this
         (subst (R x) (sym those) holds)
 
+    -- blocks stay where the list grows
     pub blocks_more : AreBlocks t R all (xs ++ ys)
     blocks_more = record {
       one_each =
@@ -91,6 +92,7 @@ module _ {X : Type 0} (t : Nodes) (R : Place → List X → Type 0) where
         cases : (y : ℕ) → y < length places + 1 → (y < length places) ⊎ (y ≡ length places)
         cases y h = grind arith
 
+-- blocks of one relation are blocks of a weaker one
 pub blocks_kept :
     {X : Type 0} (t : Nodes) (R Q : Place → List X → Type 0) →
     ((x : Place) (ys : List X) → R x ys → Q x ys) → (places : List Place) (xs : List X) →
@@ -100,6 +102,7 @@ blocks_kept t R Q h places xs blocks = record {
   each = λ y x e. h x (chosen y (sources_from t 0 places) xs) (blocks.each y x e);
 }
 
+-- pairs of one relation are pairs of a weaker one
 pub zip_kept :
     {A B : Type 0} (R Q : A → B → Type 0) → ((x : A) (y : B) → R x y → Q x y) →
     (xs : List A) (ys : List B) → AllZip R xs ys → AllZip Q xs ys
@@ -108,6 +111,7 @@ zip_kept R Q h [] (y ∷ ys) z = absurd z
 zip_kept R Q h (x ∷ xs) [] z = absurd z
 zip_kept R Q h (x ∷ xs) (y ∷ ys) z = (h x y z.0, zip_kept R Q h xs ys z.1)
 
+-- one more pair at the end
 pub zip_more :
     {A B : Type 0} (R : A → B → Type 0) (xs : List A) (ys : List B) (x : A) (y : B) →
     AllZip R xs ys → R x y → AllZip R (xs ++ x ∷ []) (ys ++ y ∷ [])

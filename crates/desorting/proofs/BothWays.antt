@@ -32,6 +32,7 @@ test_at-map E (q ∷ qs) (suc k) h =
     ap (λ o. if o then E q else test_at (map E qs) (suc k - 1)) (not_zero k)
     ∙ ap (test_at (map E qs)) one ∙ test_at-map E qs k (omega arith)
 
+-- the index of an injection that fits is one of the parts
 pub sum_within : (fs : List Check) (v : Value) → fits_step Sum fs v ≡ true → index v < length fs
 sum_within fs v h = by (out-Value v) h
   where
@@ -116,6 +117,7 @@ module _ (R : Place → ℕ → Type 0) (b : List ℕ) (E : ℕ → Test) (is : 
         ∙ weights-equal R b E only (is only) (entries v) (entries w) cs ds
         (h only (picked_in qs 0 one)) x y same
 
+    -- values whose classes agree at a layer have equal images
     pub layer-equal : (m : Node) → HasOne m qs → (f : ℕ → Check) → fits_step m (map f qs) v ≡ true
         → (m ≡ State → (c : ℕ) → R (p, v) c → R (p, w) c
         → eq_step State (map E qs) (relabelled b v) (relabelled b w) ≡ true)
@@ -185,6 +187,7 @@ module _ (R : Place → ℕ → Type 0) (b : List ℕ) (E : ℕ → Test) (is : 
         (sym (λ i. same_weights (test_at-map E qs 0 one i) (entries_map b v i)
         (entries_map b w i)) ∙ e)
 
+    -- values whose images are equal at a layer have classes that agree
     pub layer-agree : (m : Node) → HasOne m qs → (f : ℕ → Check) → fits_step m (map f qs) v ≡ true
         → (m ≡ State → (c d : ℕ) → R (p, v) c → R (p, w) d
         → eq_step State (map E qs) (relabelled b v) (relabelled b w) ≡ true → c ≡ d)

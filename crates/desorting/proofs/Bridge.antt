@@ -64,6 +64,7 @@ dist_node x y h = h.0
 form_node : (x y : Classed PolyShape ℕ) → agree_of_forms x y → x.shape.node ≡ y.shape.node
 form_node x y h = h.0
 
+-- structures that agree are of one node
 pub one_node : (x y : Classed AnyShape AnyLabel) → any_agree x y
     → any_node x.shape ≡ any_node y.shape
 one_node =
@@ -73,6 +74,7 @@ one_node =
     (sides_node (agree_of_groups (pos 0) add) _ _ _ group_node
     (sides_node agree_of_dists agree_of_forms _ _ dist_node form_node))))
 
+-- the node of a shape is the one that it was made of
 pub node_is : (m : Node) (p : ℕ) (v : Value) (k : ℕ) → any_node (shape_of m p v k) ≡ p
 node_is State p v k = refl
 node_is (Constant labels) p v k = refl
@@ -93,6 +95,7 @@ weights es = map (λ e. e.1) es
 abbrev weight : Value × ℤ → ℤ
 weight e = e.1
 
+-- the structure of a value with the classes of its children
 abbrev pub structure : Node → ℕ → Value → List ℕ → Classed AnyShape AnyLabel
 structure m p v cs = record {
   shape = shape_of m p v (length cs);
@@ -147,6 +150,7 @@ module _ (qs : List ℕ) (p : ℕ) (v w : Value) (cs ds : List ℕ) where
   agree_to Rationals h = sums_to (entries v) (entries w) cs ds _ _
       (scaled_labels weight (entries v)) (scaled_labels weight (entries w)) h.1
 
+  -- classes that agree at the node agree in the structure
   pub agree_from : (m : Node) → length cs ≡ length (child_places m qs p v)
       → length ds ≡ length (child_places m qs p w) → AgreeAt m v w cs ds
       → any_agree (structure m p v cs) (structure m p w ds)
@@ -236,6 +240,7 @@ triple_is m d es ls g e =
     λ k. ap (λ l. sum_if (pos 0) add (λ c. c == k) l g) e ∙ sum_is m k es g in
     λ i. triple (lowest_terms (at 0 i) d) (lowest_terms (at 1 i) d) (lowest_terms (at 2 i) d)
 
+-- the value of a shape is that of the layer
 pub value_is : (d : ℕ) (m : Node) (p : ℕ) (v : Value) (k : ℕ) (g : List ℕ)
     → any_value d (shape_of m p v k) (labels_of m v k) g ≡ layer_value d m v g
 value_is d State p v k g = ap (λ n. value.Trit n) (first_is g)

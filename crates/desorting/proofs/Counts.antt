@@ -17,6 +17,7 @@ use Rattle.structures.proofs.Arities.{HasOne, has_one}
 use Rattle.structures.proofs.AtChild.{count_within}
 use Rattle.structures.proofs.Leaves.{leaves-children}
 
+-- as many numbers as asked for
 pub length-numbers : (first k : ℕ) → length (numbers_from first k) ≡ k
 length-numbers first zero = refl
 length-numbers first (suc k) = ap suc (length-numbers (first + 1) k)
@@ -37,6 +38,7 @@ weighed_count qs v f one =
     at_first qs (weighed v) (map f (entries v)) one
     (length-map (entries v) f ∙ sym (length-map (entries v) (λ (e : Value × ℤ). e.0)))
 
+-- a value has a label for each child
 pub labels_count :
     (m : Node) (qs : List ℕ) (p : ℕ) (v : Value) → HasOne m qs →
     length (labels_of m v (length (child_places m qs p v))) ≡ length (child_places m qs p v)

@@ -73,6 +73,7 @@ module _
       ∙ ap (labels_of m x.1) (sym count) in
       λ i. record { shape = shape i; labels = read i; targets = targets_are y i }
 
+  -- what was numbered decodes to the structures it came from
   pub system_read :
       (first : ℕ) (places : List Place) (numbers : List ℕ) → AllZip IsShaped places numbers →
       ((y : ℕ) (x : Place) → slice_get places y ≡ Some x → IsEdged (first + y) x) →
@@ -106,6 +107,7 @@ module _
         (labels_fit table x.1 k (chosen y sources labels) (weights_within (2 ^ 106) x.1 small)
         (children_at t x.0) x.0 m (fits t) step (ap length (leaves-children t x)) labelled))
 
+    -- what was numbered fits its table
     pub system_fits :
         (first : ℕ) (places : List Place) (numbers : List ℕ) → AllZip IsShaped places numbers →
         ((y : ℕ) (x : Place) → slice_get places y ≡ Some x → IsEdged (first + y) x) →

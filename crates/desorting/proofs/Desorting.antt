@@ -163,6 +163,7 @@ module _ (t : Nodes) (values : List Value) (system : List Occurrence) (roots : L
                 → are_equal t q (relabelled b u) (relabelled b w) ≡ true
             stands one two = stand q inside below r.0 r'.0 u w one two (r.2 ∙ sym r'.2)
 
+    -- a stable labelling of the sorted states is stable at the states
     pub to_coalgebra : IsStable t values b
     to_coalgebra = record {
       covers = ap length labels ∙ length-map roots class_of ∙ sorting.one_root;
@@ -244,6 +245,7 @@ module _ (t : Nodes) (values : List Value) (system : List Occurrence) (roots : L
               (sym (eq-at q (relabelled b o.value) (relabelled b p.value) inside) ∙ equal),
         )
 
+    -- a stable list of the states is stable at the sorted states
     pub to_system : IsStableSorting t system s
     to_system = record { one_each = joined.one_each; agrees = agrees }
 
@@ -267,6 +269,7 @@ module _ (t : Nodes) (b : List ℕ) (system : List Occurrence) where
         r.value e;
   }
 
+  -- the labels that make occurrences of equal values one
   abbrev pub joined_labels : List ℕ
   joined_labels = map (first_of together together-equivalence system) system
 
@@ -276,6 +279,7 @@ module _ (t : Nodes) (b : List ℕ) (system : List Occurrence) where
       system o) 0 (slice_get-map (first_of together together-equivalence system) system x
       ∙ ap (option_map (first_of together together-equivalence system)) at)
 
+  -- the labels join exactly the occurrences that are equal
   pub joined_labels-join : IsJoined t b system joined_labels
   joined_labels-join = record {
     one_each = length-map system (first_of together together-equivalence system);

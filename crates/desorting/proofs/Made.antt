@@ -53,9 +53,11 @@ module _
       (chosen (0 + y) sources targets)
       (are.sorting.linked y _ (occurrence_at sources targets 0 places y x e))
 
+  -- the node of a place is one of the term
   pub place_inside : (y : ℕ) (x : Place) → slice_get places y ≡ Some x → x.0 < length t
   place_inside y x e = fits_inside t x.0 x.1 (place_fits y x e)
 
+  -- the children of a place are fewer than 2^32
   pub few_leaves :
       (y : ℕ) (x : Place) → slice_get places y ≡ Some x → length (leaves_of t x) < 2 ^ 32
   few_leaves y x e =
@@ -64,6 +66,7 @@ module _
   module _
       (shapes : List LayerShape) (table : List ℤ) (numbers labels : List ℕ)
       (numbered : AreNumbered t shapes table places numbers labels) where
+    -- a number for each place
     pub one_number : length numbers ≡ length places
     one_number = AllZip-long _ places numbers numbered.shaped
 
@@ -85,6 +88,7 @@ module _
             leaf_count y x e,
           )
 
+      -- what was made decodes to the sorted states
       pub made_system :
           decoded_system (shape_with shapes) (label_of shapes table)
           (system_from 0 numbers edges)
@@ -93,6 +97,7 @@ module _
           system_read t shapes table sources targets labels edges are_sources are_labels
           are_targets 0 places numbers numbered.shaped edged
 
+      -- each state of what was made suits its layer
       pub made_fit :
           IsTerm t → (x : ℕ) (a : Sorted ℕ ℕ) → IsState (system_from 0 numbers edges) x a →
           fits_layer shapes table a.shape a.labels

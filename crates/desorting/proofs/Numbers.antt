@@ -29,6 +29,7 @@ use Rattle.desorting.proofs.Counts.{length-numbers}
 use Rattle.desorting.proofs.Blocks.{blocks_more, blocks_kept, zip_kept, zip_more}
 use Rattle.desorting.proofs.BothWays.{sum_within}
 
+-- the side of a kind is the shape that it was made of
 pub side_is : (m : Node) (p : ℕ) (v : Value) (k : ℕ) → side_of (kind_of m v k) p ≡ shape_of m p v k
 side_is State p v k = refl
 side_is (Constant labels) p v k = refl
@@ -189,6 +190,7 @@ module _ (table : List ℤ) (v : Value) (k : ℕ) (ys : List ℕ) where
 module _
     (t : Nodes) (is : IsTerm t) (shapes more : List LayerShape) (table larger : List ℤ)
     (kept : Keeps shapes more) (kept_weights : Keeps table larger) where
+  -- one more place is numbered
   pub numbered_step :
       (places : List Place) (i : ℕ) (x : Place) → slice_get places i ≡ Some x →
       (ss ls ss' ls' : List ℕ) → AreNumbered t shapes table (take i places) ss ls →

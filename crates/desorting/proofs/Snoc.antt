@@ -19,18 +19,21 @@ numbers-snoc first (suc n) =
 
 -- one more element behind the elements that were added
 module _ {X : Type 0} (old new more : List X) (x : X) (added all : List X) where
+  -- a list that grew by one part and one element
   pub push_more :
       more ≡ new ++ x ∷ [] → new ≡ old ++ added → all ≡ added ++ x ∷ [] → more ≡ old ++ all
   push_more pushed before after =
       pushed ∙ ap (λ l. l ++ x ∷ []) before ∙ append_assoc old added (x ∷ [])
       ∙ ap (λ l. old ++ l) (sym after)
 
+-- a list that grew by zeros grows by another
 pub push_zero :
     (old new more : List ℕ) (n : ℕ) → more ≡ new ++ 0 ∷ [] → new ≡ old ++ repeated 0 n →
     more ≡ old ++ repeated 0 (n + 1)
 push_zero old new more n pushed before =
     push_more old new more 0 (repeated 0 n) (repeated 0 (n + 1)) pushed before (repeated-snoc 0 n)
 
+-- a list that grew by numbers in order grows by the next
 pub push_number :
     (old new more : List ℕ) (n : ℕ) → more ≡ new ++ n ∷ [] → new ≡ old ++ numbers_from 0 n →
     more ≡ old ++ numbers_from 0 (n + 1)

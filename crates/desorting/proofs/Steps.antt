@@ -45,6 +45,7 @@ module _ (R : Place → ℕ → Type 0) (b : List ℕ) (E : ℕ → Test) where
       (map (relabelled b) ws)) (h q (first_in q qs) u w c x.0 y.0)
       (product-equal qs us ws cs (λ r k. h r (rest_in q qs r k)) x.1 y.1)
 
+  -- tuples whose images are equal have the same classes in order
   pub product-agree : (qs : List ℕ) (us ws : List Value) (cs ds : List ℕ)
       → ((q : ℕ) → Contains qs q → EqualsMeet q) → AllZip R (zip qs us) cs → AllZip R (zip qs ws) ds
       → each_place (map E qs) (map (relabelled b) us) (map (relabelled b) ws) ≡ true → cs ≡ ds
@@ -79,6 +80,7 @@ module _ (R : Place → ℕ → Type 0) (b : List ℕ) (E : ℕ → Test) where
         (pointwise (E q) (map (relabelled b) us) (map (relabelled b) ws)) (h u w c x.0 y.0)
         (power-equal us ws cs h x.1 y.1)
 
+    -- powers whose images are equal have the same classes in order
     pub power-agree : (us ws : List Value) (cs ds : List ℕ) → EqualsMeet q
         → AllZip R (at_node q us) cs → AllZip R (at_node q ws) ds
         → pointwise (E q) (map (relabelled b) us) (map (relabelled b) ws) ≡ true → cs ≡ ds
@@ -121,6 +123,7 @@ module _ (R : Place → ℕ → Type 0) (b : List ℕ) (E : ℕ → Test) where
         (covered-equal us ws cs ds h x.1 y
         (λ k later. e k (or_right (c == k) (has_class k cs) later)))
 
+    -- sets with the same classes have equal images
     pub members-equal : (us ws : List Value) (cs ds : List ℕ) → ClassesEqual q
         → AllZip R (at_node q us) cs → AllZip R (at_node q ws) ds → SameSet cs ds
         → same_members (E q) (map (relabelled b) us) (map (relabelled b) ws) ≡ true
@@ -156,6 +159,7 @@ module _ (R : Place → ℕ → Type 0) (b : List ℕ) (E : ℕ → Test) where
         (class_met ws ds u d h y x.0 p.0)) (λ later. covered-agree us ws cs ds c h x.1 y p.1
         later) (or_cases (d == c) (has_class c cs) k)
 
+    -- sets whose images are equal have the same classes
     pub members-agree : (us ws : List Value) (cs ds : List ℕ) → EqualsMeet q
         → AllZip R (at_node q us) cs → AllZip R (at_node q ws) ds
         → same_members (E q) (map (relabelled b) us) (map (relabelled b) ws) ≡ true → SameSet cs ds

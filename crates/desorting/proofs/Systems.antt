@@ -106,6 +106,7 @@ module _ (t : Nodes) (values : List Value) (system : List Occurrence) (roots : L
   count x o e = AllZip-long _ (child_places (node_at t o.node) (children_at t o.node) o.node o.value)
       o.targets (linked_children t values system roots sorting x o e)
 
+  -- what values are sorted into is a system
   pub sorting_is_system : IsSystem any_node any_kin any_fits (sorted_system t system)
   sorting_is_system = record {
     in_range = λ x a e. let (o, at_o, is_o) = mapped_at (sorted_of t) system x a e in

@@ -17,6 +17,7 @@ size-tested m (e ∷ es) =
     ap (λ k. unsigned_abs e.1 + k) (size-tested m es)
     ∙ sym (sum_by-cons (λ (e : Bool × ℤ). unsigned_abs e.1) (is_within m e.0, e.1) (tested m es))
 
+-- the weights of a value are within its bound
 pub weights_within : (m : ℕ) (v : Value) → is_within m v ≡ true
     → size_of (λ (x : ℤ). x) (map (λ e. e.1) (entries v)) ≤ m
 weights_within m v h = by (out-Value v) (sym (within_out m v) ∙ h)

@@ -88,6 +88,7 @@ module _ (R : Place → ℕ → Type 0) (b : List ℕ) (E : ℕ → Test) (q : �
     each_placed p (e ∷ es) (c ∷ cs) h k = and_from (p (relabelled b e.0, e.1)) (list_all p (moved es))
         (k (record { value = e.0; class = c; known = h.0 }) e.1) (each_placed p es cs h.1 k)
 
+    -- weights with one sum in each class have equal images
     pub weights-equal : (us ws : List (Value × ℤ)) (cs ds : List ℕ) → ClassesEqual R b E q
         → AreClassed us cs → AreClassed ws ds → SameSums the_sum us ws cs ds
         → same_weights (E q) (moved us) (moved ws) ≡ true
@@ -127,6 +128,7 @@ module _ (R : Place → ℕ → Type 0) (b : List ℕ) (E : ℕ → Test) (q : �
         by false other (inr none) = inr (ap (λ o. cond o (e.1 +ℤ sum_at k es cs) (sum_at k es cs))
             other ∙ none)
 
+    -- weights whose images are equal have one sum in each class
     pub weights-agree : (us ws : List (Value × ℤ)) (cs ds : List ℕ) → EqualsMeet R b E q
         → AreClassed us cs → AreClassed ws ds → same_weights (E q) (moved us) (moved ws) ≡ true
         → SameSums the_sum us ws cs ds

@@ -6,6 +6,7 @@ use Rattle.edge_store.specs.Edges.{Graph, sources_of, labels_of, targets_of, edg
 use Rattle.edge_store.specs.Stored.{edges_of, IsStored}
 use Rattle.edge_store.proofs.Places.{places_each, places_every, places_ascend}
 
+-- the sources of edges put together
 pub sources-edges_of : {Label : Type 0} (s : List ℕ) (l : List Label) (t : List ℕ) →
     length l ≡ length s → length t ≡ length s → sources_of (edges_of s l t) ≡ s
 sources-edges_of [] l t e f = refl
@@ -14,6 +15,7 @@ sources-edges_of (s ∷ ss) (l ∷ ls) [] e f = absurd (omega arith)
 sources-edges_of (s ∷ ss) (l ∷ ls) (t ∷ ts) e f =
     ap (λ xs. s ∷ xs) (sources-edges_of ss ls ts (omega arith) (omega arith))
 
+-- the labels of edges put together
 pub labels-edges_of : {Label : Type 0} (s : List ℕ) (l : List Label) (t : List ℕ) →
     length l ≡ length s → length t ≡ length s → labels_of (edges_of s l t) ≡ l
 labels-edges_of [] [] t e f = refl
@@ -23,6 +25,7 @@ labels-edges_of (s ∷ ss) (l ∷ ls) [] e f = absurd (omega arith)
 labels-edges_of (s ∷ ss) (l ∷ ls) (t ∷ ts) e f =
     ap (λ xs. l ∷ xs) (labels-edges_of ss ls ts (omega arith) (omega arith))
 
+-- the targets of edges put together
 pub targets-edges_of : {Label : Type 0} (s : List ℕ) (l : List Label) (t : List ℕ) →
     length l ≡ length s → length t ≡ length s → targets_of (edges_of s l t) ≡ t
 targets-edges_of [] l [] e f = refl
@@ -55,6 +58,7 @@ pub record Show {Label : Type 0} (n : ℕ) (s : List ℕ) (l : List Label) (t : 
   pub labels : labels_of seen.edges ≡ l
   pub targets : targets_of seen.edges ≡ t
 
+-- what is stored is what is seen
 pub shown : {Label : Type 0} {n : ℕ} {s : List ℕ} {l : List Label} {t from into numbers : List ℕ}
     {seen : Graph Label} → IsStored n s l t from into numbers →
     ◌≡◌ {A = Graph Label} (record { states = n; edges = edges_of s l t }) seen → Show n s l t seen

@@ -94,6 +94,7 @@ put-cut false true false b at bytes pieces is letter next cut =
 put-cut false false begins b at bytes pieces is letter next cut =
     single-cut b at bytes pieces (inr (b, refl, letter, is)) cut
 
+-- the tokens that are cut are those of the line
 pub tokens-cut : (at : ℕ) (line : List ℕ) → AreTokensOf at line (tokens_from at line)
 tokens-cut at [] = refl
 tokens-cut at (b ∷ bytes) = put-cut (is_blank b) (is_word_byte b)

@@ -48,9 +48,11 @@ no_feed b = by (b == line_feed)
 
 -- a search for a byte other than blanks
 module _ (set text : List ℕ) (is : set ≡ space ∷ tab ∷ []) where
+  -- the first other byte is where the blanks end
   pub blanks-at : (k : ℕ) → IsFirstByte (not_in set) text (Some k) → k ≡ prefix_len is_blank text
   blanks-at k found = found-at is_blank (not_in set) (no_blank set is) text k found
 
+  -- a text without another byte is blank to its end
   pub blanks-all : IsFirstByte (not_in set) text None → length text ≡ prefix_len is_blank text
   blanks-all none = found-none is_blank (not_in set) (no_blank set is) text none
 
@@ -59,6 +61,7 @@ pub feed-at : (text : List ℕ) (k : ℕ) → IsFirstByte (is_byte line_feed) te
     → k ≡ prefix_len is_no_feed text
 feed-at text k found = found-at is_no_feed (is_byte line_feed) no_feed text k found
 
+-- a text without a line feed is one line to its end
 pub feed-none : (text : List ℕ) → IsFirstByte (is_byte line_feed) text None
     → length text ≡ prefix_len is_no_feed text
 feed-none text none = found-none is_no_feed (is_byte line_feed) no_feed text none

@@ -15,6 +15,7 @@ pub record Found {A : Type 0} (Spelled : List Mark → A → Type 0) (ts : List 
   pub some : 0 < length front
   pub spelled : Spelled front x
 
+-- what is read is spelled by what was passed over
 abbrev pub IsSound : {A : Type 0} → Reads A → (List Mark → A → Type 0) → Type 0
 IsSound {A} read Spelled = (ts : List Mark) (x : A) (rest : List Mark) → read ts ≡ Some (x, rest)
     → Found Spelled ts x rest
@@ -54,6 +55,7 @@ module _ {A : Type 0} (turn : Mark → Turn) (close : Mark) (ends : Ends turn cl
   }
 
   module _ (sound : IsSound item Spelled) where
+    -- items that are read are spelled
     pub items-sound : (n : ℕ) (ts : List Mark) (xs : List A) (rest : List Mark)
         → items_within turn item n ts ≡ Some (xs, rest) → FoundItems Spelled close ts xs rest
     unfolding items_within
@@ -102,6 +104,7 @@ module _ {A : Type 0} (turn : Mark → Turn) (close : Mark) (ends : Ends turn cl
   module _ (MayFollow : List Mark → Type 0) (complete : IsComplete item Spelled MayFollow)
       (before_comma : (rest : List Mark) → MayFollow (Comma ∷ rest))
       (before_close : (rest : List Mark) → MayFollow (close ∷ rest)) where
+    -- items that are spelled are read
     pub items-complete : (n : ℕ) (inner : List Mark) (xs : List A) (rest : List Mark)
         → SpellsEach Spelled inner xs → length inner < n
         → items_within turn item n (inner ++ close ∷ rest) ≡ Some (xs, rest)
@@ -129,6 +132,7 @@ abbrev pub IsShorter : {A : Type 0} → Reads A → Type 0
 IsShorter {A} read = (ts : List Mark) (x : A) (rest : List Mark) → read ts ≡ Some (x, rest)
     → length rest < length ts
 
+-- what is sound leaves a shorter text
 pub sound-shorter : {A : Type 0} (read : Reads A) (Spelled : List Mark → A → Type 0)
     → IsSound read Spelled → IsShorter read
 sound-shorter read Spelled sound ts x rest e =

@@ -149,12 +149,14 @@ lines-step n text line rest first =
     ∙ ap (λ l. if not (is_skipped l) then numbered_line n l
     ∷ lines_from (n + 1) rest else lines_from (n + 1) rest) (sym first.trimmed)
 
+-- a line that is skipped is passed over
 pub lines-skip : (n : ℕ) (text line rest : List ℕ) → IsFirstLine text line rest
     → is_skipped line ≡ true → lines_from n text ≡ lines_from (n + 1) rest
 lines-skip n text line rest first is = lines-step n text line rest first
     ∙ ap (λ x. if not x then numbered_line n line
     ∷ lines_from (n + 1) rest else lines_from (n + 1) rest) is
 
+-- a line that is not skipped comes next, with its number
 pub lines-take : (n : ℕ) (text line rest : List ℕ) → IsFirstLine text line rest
     → is_skipped line ≡ false → lines_from n text ≡ numbered_line n line ∷ lines_from (n + 1) rest
 lines-take n text line rest first is = lines-step n text line rest first
@@ -179,6 +181,7 @@ module _ (text behind raw line : List ℕ) (indent feed : ℕ)
     (blanks : indent ≡ prefix_len is_blank text) (back : behind ≡ drop indent text)
     (end : feed ≡ prefix_len is_no_feed behind) (front : raw ≡ take (indent + feed) text)
     (trimmed : line ≡ without_return raw) where
+  -- the line feed stands where the line ends
   pub line-feed : indent + feed ≡ prefix_len is_no_feed text
   line-feed = (λ i. blanks i + (end
       ∙ ap (prefix_len is_no_feed) (back ∙ ap (λ m. drop m text) blanks)) i)
@@ -189,14 +192,17 @@ module _ (text behind raw line : List ℕ) (indent feed : ℕ)
       (trimmed ∙ ap without_return (front ∙ ap (λ m. take (m + feed) text) blanks))
       ∙ blanks-of_line text feed ∙ sym blanks
 
+  -- the blanks of a line are within it
   pub indent-within : indent ≤ length line
   indent-within = omega (arith, line-blanks, prefix_len-le-length is_blank line)
 
+  -- whether a line is skipped is seen behind its blanks
   pub skipped-written : (written : List ℕ) → written ≡ drop indent line
       → begins_note written ≡ is_skipped line
   skipped-written written is = ap begins_note (is ∙ ap (λ m. drop m line) (sym line-blanks))
       ∙ sym (skipped-behind line)
 
+-- a carriage return at the end is dropped
 pub trim-return : (line front : List ℕ) (b : ℕ) → line ≡ front ++ b ∷ [] → b ≡ 13
     → front ≡ without_return line
 trim-return line front b is last =
@@ -204,6 +210,7 @@ trim-return line front b is last =
     sym (ap without_return is ∙ without_return-push front b
     ∙ ap (λ x. if x then front else front ++ b ∷ []) e)
 
+-- a line that ends in another byte keeps it
 pub trim-none : (line front : List ℕ) (b : ℕ) → line ≡ front ++ b ∷ [] → (b ≡ 13 → ⊥)
     → line ≡ without_return line
 trim-none line front b is last =

@@ -28,10 +28,12 @@ module _ {A : Type 0} (turn : Mark → Turn) (item : Reads A) (shorter : IsShort
       (items_at-step turn item shorter left
       ∙ ap (option_and_then (λ p. after_item turn p.0 (items_at turn item) p.1)) e)
 
+  -- where an item is not read there is no list
   pub turn-fails : item left ≡ None → items_at turn item whole ≡ None
   turn-fails e = step None e
 
   module _ (x : A) (rest : List Mark) (read : item left ≡ Some (x, rest)) where
+    -- where no mark is left there is no list
     pub turn-stops : rest ≡ [] → items_at turn item whole ≡ None
     turn-stops e = step (Some (x, rest)) read
         ∙ ap (λ r. behind done (after_item turn x (items_at turn item) r)) e
@@ -43,16 +45,20 @@ module _ {A : Type 0} (turn : Mark → Turn) (item : Reads A) (shorter : IsShort
           ∙ ap (λ r. behind done (after_item turn x (items_at turn item) r)) is
           ∙ ap (λ v. behind done (turned x (items_at turn item) others v)) e
 
+      -- where a wrong mark stands there is no list
       pub turn-errs : turn mark ≡ wrong → items_at turn item whole ≡ None
       turn-errs e = turned_by wrong e
 
+      -- where the list ends the items are those that were read
       pub turn-closes : turn mark ≡ end → items_at turn item whole ≡ Some (done ++ x ∷ [], others)
       turn-closes e = turned_by end e
 
+      -- where another item follows the list goes on
       pub turn-goes : turn mark ≡ another
           → behind (done ++ x ∷ []) (items_at turn item others) ≡ items_at turn item whole
       turn-goes e = behind-again done x (items_at turn item others) ∙ sym (turned_by another e)
 
+      -- a turn leaves fewer marks
       pub turn-shorter : length others < length left
       turn-shorter = let less : length rest < length left = shorter left x rest read in
           omega (arith, ap length is)
@@ -63,6 +69,7 @@ wrong_in_parens Comma a b = absurd (a refl)
 wrong_in_parens Close a b = absurd (b refl)
 wrong_in_parens _ a b = refl
 
+-- what is neither a comma nor the end is wrong in braces
 pub wrong_in_braces : (m : Mark) → (m ≡ Comma → ⊥) → (m ≡ CloseBrace → ⊥) → in_braces m ≡ wrong
 wrong_in_braces Comma a b = absurd (a refl)
 wrong_in_braces CloseBrace a b = absurd (b refl)

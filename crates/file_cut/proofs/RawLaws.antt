@@ -34,6 +34,7 @@ begun-cover b bytes lines true is cover =
     (bytes, refl, inl (ap (λ c. c ∷ bytes) (is_feed b is)), cover)
 begun-cover b bytes lines false is cover = before-cover b bytes lines is cover
 
+-- raw lines cover the bytes
 pub raw-cover : (bytes : List ℕ) → AreRawLines bytes (raw_lines bytes)
 raw-cover [] = refl
 raw-cover (b ∷ bytes) = begun-cover b bytes (raw_lines bytes) (b == line_feed) refl

@@ -339,9 +339,11 @@ pub one_tree : (n : ℕ) (ts : List Mark) (x y : Tree) → SpellsWithin n ts x �
 one_tree n ts x y a b = (some_pair_parts x y [] []
     (sym (tree-complete n ts x [] a) ∙ tree-complete n ts y [] b)).0
 
+-- a tree leaves fewer marks
 pub tree-shorter : (n : ℕ) → IsShorter (tree_at n)
 tree-shorter n = sound-shorter (tree_at n) (SpellsWithin n) (tree-sound n)
 
+-- an entry leaves fewer marks
 pub entry-shorter : (n : ℕ) → IsShorter (entry_at (tree_at n))
 entry-shorter n = sound-shorter (entry_at (tree_at n)) (SpellsEntry (SpellsWithin n))
     (entry-sound (tree_at n) (SpellsWithin n) (tree-sound n))
@@ -351,6 +353,7 @@ pub tree_at-none : (n : ℕ) (ts : List Mark) → n ≡ 0 → tree_at n ts ≡ w
 unfolding tree_at
 tree_at-none n ts e = ap (λ m. tree_at m ts) e
 
+-- with room for one more bracket a tree is what stands behind the first mark
 pub tree_at-room : (n : ℕ) (ts : List Mark) → (n ≡ 0 → ⊥)
     → tree_at n ts ≡ opened_at (tree_at (n - 1)) ts
 unfolding tree_at

@@ -144,6 +144,7 @@ module _ (l : ℕ) (t : Nodes) (names : List (List ℕ)) where
       let more = forms_small fs values is.1 in
       omega (arith, one, more)
 
+-- a file that is accepted has few structures and edges
 pub accepted_few : AcceptedFilesAreFew
 accepted_few bytes c reads =
     let rows = reads.spelled in

@@ -136,9 +136,11 @@ module _
         (smaller 1 i u v at_u at_v));
   }
 
+-- a quotient has no more structures and edges than its source
 pub quotient_no_larger : QuotientsAreNoLarger
 quotient_no_larger = no_larger
 
+-- a quotient has few structures and edges
 pub quotient_few : QuotientsAreFew
 quotient_few t names values b one_each ns vs quotient few =
     let less = no_larger t names values b one_each ns vs quotient in

@@ -40,6 +40,7 @@ module _ (g : ℕ → Fit) where
   fit_found (r ∷ qs) zero q e = ap g (same_Some r q e)
   fit_found (r ∷ qs) (suc k) q e = fit_at-suc (g r) (map g qs) k ∙ fit_found qs k q e
 
+  -- no child, no fit
   pub fit_none : (qs : List ℕ) (k : ℕ) → slice_get qs k ≡ None → fit_at (map g qs) k ≡ no_fit
   fit_none [] k e = refl
   fit_none (r ∷ qs) zero e = absurd (none-some r (sym e))

@@ -84,6 +84,7 @@ fraction_same n k e = cc
 over_fraction : (n : Numeral) → weight.OverBound ≡ weight.Fraction n → ⊥
 over_fraction n e = cc
 
+-- a weight that is read is what its tree spells
 pub weight-read : (m : Node) (o : Option Tree) (c : Weight) → weight_fit m o ≡ Ok c → IsRead m c
 weight-read m None c e = subst (IsRead m) (ok_same one c e) (record {
   numeral = refl;

@@ -224,6 +224,7 @@ module _ (l n : ℕ) where
       ∙ places-suc g gs (k + 1) us in
       λ i. found (fit_at-suc g gs k i u) (λ v. made (λ vs. v ∷ vs) (next i))
 
+  -- the places behind the first have their own children
   pub scaled-suc : (s : Scale) (ss : List Scale) (k : ℕ) (fs : List Fitted)
       → scaled_places (s ∷ ss) (suc k) fs ≡ scaled_places ss k fs
   scaled-suc s ss k [] = refl

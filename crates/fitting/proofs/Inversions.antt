@@ -14,27 +14,33 @@ use Rattle.fitting.specs.declared.fitted.Fitted.{Fitted}
 use Rattle.fitting.specs.Levels.{key, weight_tree}
 use Rattle.fitting.specs.Fitting.{Found, Fit, needs, demands, found, made, each, Slots, is_free, filled, all_held}
 
+-- an answer is one
 pub ok_same : {A : Type 0} (x y : A) → ◌≡◌ {A = Found A} (Ok x) (Ok y) → x ≡ y
 ok_same x y e = cc
 
+-- a fault is no answer
 pub err_ok : {A : Type 0} (kind : TypeKind) (y : A) → ◌≡◌ {A = Found A} (Err kind) (Ok y) → ⊥
 err_ok kind y e = cc
 
+-- what is needed is there where the answer is Ok
 pub needs-ok : {A B : Type 0} (o : Option A) (kind : TypeKind) (rest : A → Found B) (y : B)
     → needs o kind rest ≡ Ok y → (x : A) × (o ≡ Some x) × (rest x ≡ Ok y)
 needs-ok None kind rest y e = absurd (err_ok kind y e)
 needs-ok (Some x) kind rest y e = (x, refl, e)
 
+-- what is demanded holds where the answer is Ok
 pub demands-ok : {B : Type 0} (b : Bool) (kind : TypeKind) (rest : Found B) (y : B)
     → demands b kind rest ≡ Ok y → (b ≡ true) × (rest ≡ Ok y)
 demands-ok true kind rest y e = (refl, e)
 demands-ok false kind rest y e = absurd (err_ok kind y e)
 
+-- an Ok behind an Ok
 pub found-ok : {A B : Type 0} (r : Found A) (rest : A → Found B) (y : B) → found r rest ≡ Ok y
     → (x : A) × (r ≡ Ok x) × (rest x ≡ Ok y)
 found-ok (Ok x) rest y e = (x, refl, e)
 found-ok (Err kind) rest y e = absurd (err_ok kind y e)
 
+-- what is made is made of an answer
 pub made-ok : {A B : Type 0} (f : A → B) (r : Found A) (y : B) → made f r ≡ Ok y
     → (x : A) × (r ≡ Ok x) × (f x ≡ y)
 made-ok f (Ok x) y e = (x, refl, ok_same (f x) y e)
@@ -55,6 +61,7 @@ abbrev pub SlotHolds : (Fitted → Type 0) → Option Fitted → Type 0
 SlotHolds P None = Unit {0}
 SlotHolds P (Some v) = P v
 
+-- a list in which one entry is replaced keeps what holds of each
 pub set-good : {X : Type 0} (Q : X → Type 0) (xs : List X) (k : ℕ) (y : X)
     → AllByRecursion Q xs → Q y → AllByRecursion Q (slice_set xs k y)
 set-good Q [] k y all h = tt

@@ -55,6 +55,7 @@ pub joined-value : (l : ℕ) (qs : List ℕ) (o : Option ℕ) → IsJoined l qs 
 joined-value l qs None h = tt
 joined-value l qs (Some m) h = h.0
 
+-- the join is there exactly where the multiple is within the limit
 pub joined-within :
     (l : ℕ) (qs : List ℕ) (o : Option ℕ) → IsJoined l qs o
     → IsSome o ↔ (common_multiple l qs ≤ denominator_limit)
@@ -64,12 +65,14 @@ joined-within l qs None h = (
 )
 joined-within l qs (Some m) h = ((λ w. omega (arith, h.0, h.1)), (λ w. refl))
 
+-- the join is no less than before and within the limit
 pub joined-range :
     (l : ℕ) (qs : List ℕ) (o : Option ℕ) → 1 ≤ l → ArePositive qs → IsJoined l qs o
     → IfSome o (λ m. (l ≤ m) × (m ≤ denominator_limit))
 joined-range l qs None h all is = tt
 joined-range l qs (Some m) h all is = (omega (arith, is.0, multiple-grows l qs h all), is.1)
 
+-- the join is the least common multiple, or past the limit
 pub joined-is :
     (l : ℕ) (qs : List ℕ) → 1 ≤ l → l ≤ denominator_limit → ArePositive qs
     → IsJoined l qs (joined l qs)
@@ -244,6 +247,7 @@ module _ where
       ∙ ap (λ (y : Fitted-F Fitted). denominators_step (map-Fitted Fitted (List ℕ) denominators y))
       (out-roll-Fitted x)
 
+  -- denominators are positive
   pub denominators-positive : (f : Fitted) → are_numerals f ≡ true → ArePositive (denominators f)
   denominators-positive = ind-Fitted IsGood (λ x y is h.
       subst (λ (qs : List ℕ). ArePositive qs) (sym (denominators_roll x))
@@ -251,6 +255,7 @@ module _ where
 
 -- ---- turns of the loops that join
 
+-- the denominators of a fitted tree, layer by layer
 pub denominators_out :
     (f : Fitted) (x : Fitted-F Fitted) → out-Fitted f ≡ x
     → denominators f ≡ denominators_step (map-Fitted Fitted (List ℕ) denominators x)
@@ -273,12 +278,14 @@ module _ (xs : List Fitted) (i : ℕ) (x : Fitted) (s : ℕ) (answer : Option �
       (sym (drop_more xs i x inside ∙ (λ j. sym is j ∷ drop (i + 1) xs)))
       ∙ kept
 
+  -- one more tree of a list is joined
   pub each-more :
       (m : ℕ) → Some m ≡ joined s (denominators x)
       → joined m (list_denominators (drop (i + 1) xs)) ≡ answer
   each-more m e =
       joined-more s m (denominators x) (list_denominators (drop (i + 1) xs)) answer turn (sym e)
 
+  -- a tree that is past the limit ends the list
   pub each-stops : None ≡ joined s (denominators x) → answer ≡ None
   each-stops e =
       joined-stops s (denominators x) (list_denominators (drop (i + 1) xs)) answer turn (sym e)
@@ -301,6 +308,7 @@ module _ (es : List (Fitted × Weight)) (i : ℕ) (e : Fitted × Weight) (s : �
       joined-append s (denominators e.0) (denominator_of e.1)
       ∙ ap (option_and_then (λ m. joined_after m e.1)) (sym k)
 
+  -- one more entry of weights is joined
   pub entry-more :
       (m k : ℕ) → Some m ≡ joined s (denominators e.0) → Some k ≡ joined_after m e.1
       → joined k (entry_denominators (drop (i + 1) es)) ≡ answer
@@ -308,10 +316,12 @@ module _ (es : List (Fitted × Weight)) (i : ℕ) (e : Fitted × Weight) (s : �
       joined-more s k here (entry_denominators (drop (i + 1) es)) answer entry-turn
       (both (Some m) first ∙ sym second)
 
+  -- a value that is past the limit ends the entries
   pub entry-stops : None ≡ joined s (denominators e.0) → answer ≡ None
   entry-stops first =
       joined-stops s here (entry_denominators (drop (i + 1) es)) answer entry-turn (both None first)
 
+  -- a weight that is past the limit ends the entries
   pub entry-stops-late :
       (m : ℕ) → Some m ≡ joined s (denominators e.0) → None ≡ joined_after m e.1 → answer ≡ None
   entry-stops-late m first second =

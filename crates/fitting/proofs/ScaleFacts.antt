@@ -15,6 +15,7 @@ use Rattle.fitting.specs.declared.fitted.Weight.{Weight}
 use Rattle.fitting.specs.Scaling.{Scale, no_scale, scale_at, scaled_places, scaled_parts, scaled_entries, scaled_level, scaled_step, scaled}
 use Rattle.typing.proofs.TermFacts.{not_zero}
 
+-- behind the first child the others follow
 pub scale_at-suc : (s : Scale) (ss : List Scale) (k : ℕ) → scale_at (s ∷ ss) (suc k) ≡ scale_at ss k
 scale_at-suc s ss k = ap (λ b. if b then s else scale_at ss (suc k - 1)) (not_zero k)
     ∙ ap (scale_at ss) (let e : suc k - 1 ≡ k = omega arith in e)

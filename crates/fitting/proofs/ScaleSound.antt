@@ -33,6 +33,7 @@ module _ (l : ℕ) (bounded : l ≤ 2 ^ 40) (t : Nodes) (own : List ℕ)
   pub scaled-fits : fits t 0 v ≡ true
   scaled-fits = sound.0
 
+  -- the states of the value are below their number
   pub scaled-below : states_below (length own) v ≡ true
   scaled-below = subst (λ n. states_below n v ≡ true) is.2 sound.1
 
@@ -40,12 +41,14 @@ module _ (l : ℕ) (bounded : l ≤ 2 ^ 40) (t : Nodes) (own : List ℕ)
   scaled-in_bounds =
       scaled-within l bounded t 0 f (fitting-numerals t is.0 0 is.1 f is.3) small
 
+  -- the value is bounded
   pub scaled-bounded : is_bounded v ≡ true
   scaled-bounded =
       within_more (2 ^ 106) (2 ^ 126) (leb-true (2 ^ 106) (2 ^ 126) refl) v scaled-in_bounds
 
   -- so its normal form is equal to it, and all is kept
   module _ (r : Value) (form : IsRelabelledAt t own 0 v r) where
+    -- the normal form equals the value
     pub form-equal : are_equal t 0 r v ≡ true
     form-equal =
         ap (are_equal t 0 r) (sym (kept (length own) own itself v scaled-below)) ∙ form.equal

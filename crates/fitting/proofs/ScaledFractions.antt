@@ -7,6 +7,7 @@ use Rattle.fitting.specs.declared.fitted.Weight.TheVariants as weight
 use Rattle.fitting.specs.Scaling.{scaled_weight}
 use Rattle.fitting.specs.Laws.{WeightsKeepFractions}
 
+-- a negative number times a natural one
 pub negative-times : (x c : ℕ) → neg_ℤ (pos x) *ℤ pos c ≡ neg_ℤ (pos (x * c))
 negative-times zero c =
     let none : 0 * c ≡ 0 = omega arith in
@@ -22,6 +23,7 @@ times-times (negsuc a) b c =
     ap (λ y. y *ℤ pos c) (negsuc-*ℤ-pos a b) ∙ negative-times (suc a * b) c
     ∙ ap (λ x. neg_ℤ (pos x)) (mul_assoc (suc a) b c) ∙ sym (negsuc-*ℤ-pos a (b * c))
 
+-- weights keep their fractions where they are scaled
 pub weights-keep : WeightsKeepFractions
 weights-keep l m n fractions divides =
     let scaled : scaled_weight l m (weight.Fraction n) ≡ n.p *ℤ pos (l / n.q) =

@@ -25,6 +25,7 @@ pub record IsTupleOf (gs : List Fit) (f : Fitted) : Type 0 where
   pub read : places gs 0 trees ≡ Ok values
   pub is : fitted.Tuple values ≡ f
 
+-- a product that is read is a tuple of what its parts are read as
 pub product-ok : (gs : List Fit) (u : Tree) (f : Fitted) → product_fit gs u ≡ Ok f → IsTupleOf gs f
 product-ok gs u f e =
     let counted : List Tree → Found Fitted = λ us.
@@ -63,6 +64,7 @@ pub record IsInjOf (gs : List Fit) (f : Fitted) : Type 0 where
   pub read : fit_at gs index tree ≡ Ok value
   pub is : fitted.Inj index value ≡ f
 
+-- a sum that is read is an injection of what its part is read as
 pub sum-ok : (gs : List Fit) (u : Tree) (f : Fitted) → sum_fit gs u ≡ Ok f → IsInjOf gs f
 sum-ok gs u f e =
     let placed : List ℕ × Tree → ℕ → Found Fitted = λ b k. made (fitted.Inj k) (fit_at gs k b.1) in
@@ -122,6 +124,7 @@ module _ (gs : List Fit) (P : Fitted → Type 0)
     pub all : AllByRecursion (λ w. P w.0 × Q w.1) pairs
     pub is : fitted.Weights pairs ≡ f
 
+  -- weights that are read have what each weight has
   pub weights-ok :
       (m : Node) (Q : Weight → Type 0)
       → ((o : Option Tree) (w : Weight) → weight_fit m o ≡ Ok w → Q w)

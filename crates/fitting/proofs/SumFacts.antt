@@ -21,6 +21,7 @@ module _ (g : ℕ → Check) where
   check_found (r ∷ qs) zero q e = ap g (same_Some r q e)
   check_found (r ∷ qs) (suc k) q e = check_at-suc (g r) (map g qs) k ∙ check_found qs k q e
 
+  -- no child, no check
   pub check_none : (qs : List ℕ) (k : ℕ) → slice_get qs k ≡ None → check_at (map g qs) k ≡ no_check
   check_none [] k e = refl
   check_none (r ∷ qs) zero e = absurd (none-some r (sym e))

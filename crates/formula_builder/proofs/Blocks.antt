@@ -28,6 +28,7 @@ abbrev pub next : ℕ → ℕ → ℕ → ℕ → ℕ → ℕ → ℕ
 next b c splitter split inner outer =
     if b == splitter then inner else (if c == split then outer else c)
 
+-- the coarse block of a state after a round
 pub class-coarse_after :
     (bs cs : List ℕ) (r : Round) (x : ℕ) → length cs ≡ length bs → x < length bs →
     class_in (coarse_after bs cs r) x
@@ -38,6 +39,7 @@ class-coarse_after (b ∷ bs) (c ∷ cs) r zero e h = refl
 class-coarse_after (b ∷ bs) (c ∷ cs) r (suc x) e h =
     class-coarse_after bs cs r x (omega arith) (omega arith)
 
+-- a round keeps the number of states
 pub length-coarse_after :
     (bs cs : List ℕ) (r : Round) → length cs ≡ length bs →
     length (coarse_after bs cs r) ≡ length bs

@@ -17,25 +17,30 @@ use Rattle.formula_builder.proofs.Lists.{all_at}
 -- ---- lists of distinct elements
 
 module _ {X : Type 0} where
+  -- what holds of all holds of all but the first
   pub tail_all : (P : X → Type 0) (x : X) (xs : List X) → All P (x ∷ xs) → All P xs
   tail_all P x xs all k d h = all (suc k) d (omega arith)
 
   tail_pairs : (R : X → X → Type 0) (x : X) (xs : List X) → AllPairs R (x ∷ xs) → AllPairs R xs
   tail_pairs R x xs pairs i j d before h = pairs (suc i) (suc j) d (omega arith) (omega arith)
 
+  -- the first is related to each later one
   pub head_pairs : (R : X → X → Type 0) (x : X) (xs : List X) → AllPairs R (x ∷ xs) → All (R x) xs
   head_pairs R x xs pairs k d h = pairs 0 (suc k) d (omega arith) (omega arith)
 
+  -- what holds of an element and of all of a list holds of all of both
   pub all_cons : (P : X → Type 0) (x : X) (xs : List X) → P x → All P xs → All P (x ∷ xs)
   all_cons P x xs here rest zero d h = here
   all_cons P x xs here rest (suc k) d h = rest k d (omega arith)
 
+  -- what holds of all of two lists holds of all of both together
   pub all_append : (P : X → Type 0) (xs ys : List X) → All P xs → All P ys → All P (xs ++ ys)
   all_append P [] ys here rest = rest
   all_append P (x ∷ xs) ys here rest =
       all_cons P x (xs ++ ys) (here 0 x (omega arith)) (all_append P xs ys (tail_all P x xs here)
       rest)
 
+  -- what follows from what holds of all holds of all
   pub all_map : (P Q : X → Type 0) (xs : List X) → All P xs → ((x : X) → P x → Q x) → All Q xs
   all_map P Q xs all f k d h = f (get_or xs k d) (all k d h)
 
@@ -43,6 +48,7 @@ module _ {X : Type 0} where
   any_later P x xs found =
       let (k, y, h, e, is) = found in (suc k, y, omega (arith, h), e, is)
 
+  -- pairs within two lists and between them are pairs of both together
   pub pairs_append :
       (R : X → X → Type 0) (xs ys : List X) → AllPairs R xs → AllPairs R ys →
       All (λ x. All (R x) ys) xs → AllPairs R (xs ++ ys)
@@ -236,6 +242,7 @@ pub record IsFresh (splits : List Split) (numbers : List ℕ) : Type 0 where
       × (b ≢ s.parent)) splits) numbers
   pub many : parts_in splits ≤ 2 * length numbers
 
+-- the parts of splits that are no first parts are new blocks
 pub fresh_of :
     (splits : List Split) → All (λ (s : Split). 2 ≤ length s.parts) splits →
     All (λ (s : Split). AllPairs (λ (p : Part). λ (q : Part). p.block ≢ q.block) s.parts) splits →

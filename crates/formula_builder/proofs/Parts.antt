@@ -568,6 +568,7 @@ parts_in-take (t ∷ splits) zero s below is = let same : length s.parts ≡ len
 parts_in-take (t ∷ splits) (suc i) s below is =
     omega (arith, parts_in-take splits i s (omega arith) is)
 
+-- there is room for the formulas of each split
 pub split_room :
     (a b : Book) (r : Round) (xs : List Split) → xs ≡ r.splits → (i : ℕ) (s : Split) →
     IsTellable a r → i < length xs → s ≡ get_or xs i s →
@@ -581,6 +582,7 @@ split_room a b r xs same i s ready inside there before =
     let so_far : length b.dag ≡ length a.dag + 2 * parts_in (take i r.splits) = before.count in
     omega arith
 
+-- there is room for two more formulas at each part
 pub part_room :
     (a b : Book) (node parent splitter coarse : ℕ) (parts xs : List Part) → xs ≡ parts → (i : ℕ) →
     length a.dag + 2 * length parts < 2 ^ 32 → i < length xs →
@@ -591,6 +593,7 @@ part_room a b node parent splitter coarse parts xs same i room inside before =
     let so_far : length b.dag ≡ length a.dag + 2 * length (take i parts) = before.count in
     omega arith
 
+-- there is room for two more formulas at the end of a round
 pub end_room :
     (a b : Book) (r : Round) (i : ℕ) → IsTellable a r → length r.splits ≤ i →
     AreSplitsTold a b r (take i r.splits) → length b.dag + 2 < 2 ^ 32
@@ -601,6 +604,7 @@ end_room a b r i ready past before =
     let so_far : length b.dag ≡ length a.dag + 2 * parts_in (take i r.splits) = before.count in
     omega arith
 
+-- there is room for a formula at each start
 pub start_room :
     (book : Book) (start : List Start) (i : ℕ) → length start < 2 ^ 26 → i < length start →
     AreStartsTold book (take i start) → length book.dag + 1 < 2 ^ 32

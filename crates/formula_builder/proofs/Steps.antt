@@ -26,6 +26,7 @@ pub system_length :
 system_length first [] edges = refl
 system_length first (s ∷ shapes) edges = ap suc (system_length (first + 1) shapes edges)
 
+-- a system of few states is short
 pub few_in_system :
     {Shape Label : Type 0} (shapes : List Shape) (edges : List (Edge Label)) →
     length shapes < 2 ^ 26 → length (system_from 0 shapes edges) < 2 ^ 26

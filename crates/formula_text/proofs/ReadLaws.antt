@@ -107,6 +107,7 @@ one_more :
 one_more done n a (Ok answers) = ap Ok (sym (append_assoc done ((n, a) ∷ []) answers))
 one_more done n a (Err bad) = refl
 
+-- nothing in front changes nothing
 pub none_before : (read : Result (List (ℕ × Answer)) ℕ) → read ≡ prefixed [] read
 none_before (Ok answers) = refl
 none_before (Err bad) = refl
@@ -211,6 +212,7 @@ pub record IsAfterLine
   pub read : IsReadSoFar pairs found rest new
   pub room : length new.dag + length rest ≤ 2 ^ 26
 
+-- the answer after one more line is that of the lines so far
 pub after_line :
     (pairs : Bool) (found left rest : List Numbered) (n : ℕ) (text : List ℕ) (a : Answer)
     (old new : AnswerText) (k : ℕ) →

@@ -56,6 +56,7 @@ module _ (l : Link) (inside : ℕ → Reads Part) (d : ℕ) (ts : List Sign) whe
 
   module _ (parts : List Part) (left : List Sign) (nodes : ℕ) (is : IsChained parts left nodes)
     where
+      -- 256 parts and another link are too many
       pub chain-out : 256 ≤ length parts → chain_of l inside d ts ≡ None
       chain-out full = failed (loop-out (item_of l inside d) (passes (sign_of l)) is_few _
           (node_limit - length parts) parts left is.kept (omega (arith, full)))
@@ -64,12 +65,14 @@ module _ (l : Link) (inside : ℕ → Reads Part) (d : ℕ) (ts : List Sign) whe
         next : node_limit - length parts ≡ suc (node_limit - (length parts + 1))
         next = omega (arith, room)
 
+        -- where an item is not read there is no chain
         pub chain-fails : item_of l inside d left ≡ None → chain_of l inside d ts ≡ None
         chain-fails e = failed (loop-fails (item_of l inside d) (passes (sign_of l)) is_few _
             (node_limit - length parts) parts left is.kept (node_limit - (length parts + 1)) next e)
 
         module _ (x : Part) (rest : List Sign) (read : item_of l inside d left ≡ Some (x, rest))
           where
+            -- parts with more than 256 nodes are too many
             pub chain-refuses : 256 < nodes + length x.0 → chain_of l inside d ts ≡ None
             chain-refuses h =
                 failed (loop-refuses (item_of l inside d) (passes (sign_of l)) is_few _
@@ -81,6 +84,7 @@ module _ (l : Link) (inside : ℕ → Reads Part) (d : ℕ) (ts : List Sign) whe
               joins : is_few parts x ≡ true
               joins = few parts x (let c = is.count in omega (arith, fits, c))
 
+              -- where no link follows, the chain is over what was read
               pub chain-ends : behind_sign (passes (sign_of l)) rest ≡ None → (same : List Sign)
                   → same ≡ rest → chain_of l inside d ts ≡ chain_over (node_of l) more same
               chain-ends ends same e =
@@ -91,6 +95,7 @@ module _ (l : Link) (inside : ℕ → Reads Part) (d : ℕ) (ts : List Sign) whe
                   next x rest read joins ends)
                   ∙ (λ i. chain_over (node_of l) (sym pushed i) (sym e i))
 
+              -- where a link follows, the chain goes on
               pub chain-goes : (others : List Sign)
                   → behind_sign (passes (sign_of l)) rest ≡ Some others
                   → IsChained more others (nodes + length x.0)

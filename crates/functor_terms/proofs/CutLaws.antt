@@ -112,6 +112,7 @@ cut-once (sign ∷ tokens) braces text (blanks, bytes, rest, e, all, token, cut)
     ∙ sym (ap (signs_at (place_in braces)) e ∙ skip-all braces blanks (bytes ++ rest) all
     ∙ token-first braces sign bytes rest token)
 
+-- a line is cut in one way
 pub one_cut : OneCut
 one_cut text tokens cut = cut-once tokens false text cut
 
@@ -341,5 +342,6 @@ cut-of n false [] h = refl
 cut-of zero braces (b ∷ bytes) h = absurd (omega (arith, h))
 cut-of (suc n) braces (b ∷ bytes) h = cut-more n (cut-of n) braces b bytes (omega (arith, h))
 
+-- what the tokens are cut from is the line
 pub texts_are_cut : TextsAreCut
 texts_are_cut text = cut-of (length text) false text (omega arith)

@@ -21,6 +21,7 @@ labels-bounded ts labels rest e = let found = labels-sound ts labels rest e in
 -- one turn of the loop that reads exponents
 module _ (whole : Option (Part × List Sign)) (n : ℕ) (base : Part) (ts : List Sign)
     (kept : powers_from n base ts ≡ whole) where
+  -- too many exponents are no power
   pub powers-out : n ≡ 0 → whole ≡ None
   unfolding powers_from
   powers-out e = sym kept ∙ ap (λ m. powers_from m base ts) e
@@ -35,14 +36,17 @@ module _ (whole : Option (Part × List Sign)) (n : ℕ) (base : Part) (ts : List
         ∙ ap (λ q. option_map_or (λ behind. option_and_then (λ p. powers_from m p.0 p.1)
         (raised base behind)) q (Some (base, ts))) e
 
+    -- where no caret follows, the base is the power
     pub powers-end : behind_sign is_caret ts ≡ None → (same : List Sign) → same ≡ ts
         → whole ≡ Some (base, same)
     powers-end e same is = step None e ∙ (λ i. Some (base, sym is i))
 
     module _ (behind : List Sign) (caret : behind_sign is_caret ts ≡ Some behind) where
+      -- where an exponent is not read there is no power
       pub powers-fail : raised base behind ≡ None → whole ≡ None
       powers-fail e = step (Some behind) caret ∙ ap (option_and_then (λ p. powers_from m p.0 p.1)) e
 
+      -- one exponent more, and the others over it
       pub powers-more : (next : Part) (rest : List Sign) → raised base behind ≡ Some (next, rest)
           → powers_from m next rest ≡ whole
       powers-more next rest e = sym (step (Some behind) caret
@@ -57,6 +61,7 @@ inside-room (suc n) d ts h = let same : n ≡ suc n - 1 = omega arith in
 
 -- what stands in parentheses
 module _ (room d : ℕ) (ts : List Sign) where
+  -- where no more parenthesis may open there is no group
   pub group-shut : room ≡ 0 → group_at (inside_at room d) ts ≡ None
   unfolding inside_at
   group-shut e = ap (λ m. group_at (inside_at m d) ts) e
@@ -67,6 +72,7 @@ module _ (room d : ℕ) (ts : List Sign) where
     entered r e = ap (option_and_then (λ p. ended is_close p.0 p.1))
         (inside-room room d ts open_left ∙ e)
 
+    -- where the inner term is not read there is no group
     pub group-fails : sum_at (inside_at (room - 1)) d ts ≡ None
         → group_at (inside_at room d) ts ≡ None
     group-fails e = entered None e
@@ -79,9 +85,11 @@ module _ (room d : ℕ) (ts : List Sign) where
       at_end r e = entered (Some (x, behind)) read
           ∙ ap (λ q. option_map {T = List Sign} {U = Part × List Sign} (λ rest. (x, rest)) q) e
 
+      -- where no closing parenthesis follows there is no group
       pub group-open : behind_sign is_close behind ≡ None → group_at (inside_at room d) ts ≡ None
       group-open e = at_end None e
 
+      -- a group ends at its closing parenthesis
       pub group-ends : (rest : List Sign) → behind_sign is_close behind ≡ Some rest
           → group_at (inside_at room d) ts ≡ Some (x, rest)
       group-ends rest e = at_end (Some rest) e
@@ -92,6 +100,7 @@ module _ (inside : ℕ → Reads Part) (d : ℕ) (ts : List Sign) where
   unfolding power_at
   power-fails e = ap (option_and_then (λ p. powers_from depth_limit p.0 p.1)) e
 
+  -- a power is its base and what its exponents make of it
   pub power-is : (base : Part) (rest : List Sign) → prefix_at inside d ts ≡ Some (base, rest)
       → power_at inside d ts ≡ powers_from depth_limit base rest
   unfolding power_at
@@ -130,23 +139,28 @@ prefix-zero inside t ts node e =
     ap (λ r. option_map_or (λ node. None) r (base_at (inside zero) (t ∷ ts))) e
 
 module _ (inside : ℕ → Reads Part) (d : ℕ) (ts : List Sign) where
+  -- behind the end there is no term
   pub prefix-empty : ts ≡ [] → prefix_at inside d ts ≡ None
   prefix-empty e = ap (prefix_at inside d) e ∙ prefix-none inside d
 
   module _ (t : Sign) (rest : List Sign) (is : ts ≡ t ∷ rest) where
+    -- where no prefix stands, there is a base
     pub prefix-alone : prefix_of t ≡ None → prefix_at inside d ts ≡ base_at (inside d) ts
     prefix-alone e = ap (prefix_at inside d) is ∙ prefix-other inside d t rest e
         ∙ sym (ap (base_at (inside d)) is)
 
     module _ (node : Node) (letter : prefix_of t ≡ Some node) where
+      -- where no more prefix may stand there is no term
       pub prefix-deep : d ≡ 0 → prefix_at inside d ts ≡ None
       prefix-deep e = (λ i. prefix_at inside (e i) (is i)) ∙ prefix-zero inside t rest node letter
 
+      -- a prefix stands over the term behind it
       pub prefix-over : 0 < d → prefix_at inside d ts
           ≡ over_read node (prefix_at inside (d - 1) rest)
       prefix-over h = ap (prefix_at inside d) is ∙ prefix-first inside d t rest h
           ∙ ap (λ r. option_map_or (λ n. over_read n (prefix_at inside (d - 1) rest)) r
           (base_at (inside d) (t ∷ rest))) letter
 
+      -- where what stands behind a prefix is not read there is no term
       pub prefix-fails : 0 < d → prefix_at inside (d - 1) rest ≡ None → prefix_at inside d ts ≡ None
       prefix-fails h e = prefix-over h ∙ ap (over_read node) e

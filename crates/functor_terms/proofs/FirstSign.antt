@@ -60,6 +60,7 @@ blanks-end (c ∷ text) b bytes e = by (is_blank c) refl (blanks-end text b byte
         rest (ap (λ m. drop m (c ∷ text)) one ∙ e)
     by false is rest e = let same : c ≡ b = cc in subst (λ d. is_blank d ≡ false) same is
 
+-- a digit is no blank
 pub digit-no-blank : (b : ℕ) → is_ascii_digit b ≡ true → is_blank b ≡ false
 digit-no-blank b e = grind (arith, nat_tests)
 
@@ -204,6 +205,7 @@ front-comma text others b is e =
     let all : text ≡ comma ∷ others = is ∙ ap (λ c. c ∷ others) e in
     subst (λ (l : List ℕ). signs_at inside l ≡ Comma ∷ signs_at inside others) (sym all) refl
 
+-- the end of braces is one token, and braces are left
 pub front-end : (text others : List ℕ) (b : ℕ) → text ≡ b ∷ others → b ≡ brace_end
     → signs_at inside text ≡ CloseBrace ∷ signs_at outside others
 unfolding signs_at
@@ -211,6 +213,7 @@ front-end text others b is e =
     let all : text ≡ brace_end ∷ others = is ∙ ap (λ c. c ∷ others) e in
     subst (λ (l : List ℕ). signs_at inside l ≡ CloseBrace ∷ signs_at outside others) (sym all) refl
 
+-- a byte of no token is a stray one
 pub front-stray : (text others : List ℕ) (b : ℕ) → text ≡ b ∷ others → is_blank b ≡ false
     → is_word_byte b ≡ false
     → (b == comma) ≡ false → (b == brace_end) ≡ false

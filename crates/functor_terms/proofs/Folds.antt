@@ -38,6 +38,7 @@ module _ {A : Type 0} (P : A → Type 0) (other : A) (step : Node → List A
       by below (Some b) = keeps b.node _ (all_images P (fold_within other step t n) below
           b.children)
 
+  -- what each step keeps holds of every node's fold
   pub fold-all : (p : ℕ) → P (fold other step t p)
   fold-all p = fold_within-all (length t) p
 
@@ -56,6 +57,7 @@ module _ {A B : Type 0} (R : A → B → Type 0) (a : A) (b : B) (f : Node → L
       by below (Some e) = keeps e.node _ _ (zip_images R (fold_within a f t n) (fold_within b g t n)
           below e.children)
 
+  -- two folds whose steps keep a relation are related at each node
   pub fold-related : (p : ℕ) → R (fold a f t p) (fold b g t p)
   fold-related p = fold_within-related (length t) p
 
@@ -63,6 +65,7 @@ module _ {A B : Type 0} (R : A → B → Type 0) (a : A) (b : B) (f : Node → L
 pub first_in : {X : Type 0} (x : X) (xs : List X) → Contains (x ∷ xs) x
 first_in x xs = (0, omega arith, refl)
 
+-- an element of the rest is one of the whole
 pub rest_in : {X : Type 0} (x : X) (xs : List X) (y : X) → Contains xs y → Contains (x ∷ xs) y
 rest_in x xs y h = let (k, below, same) = h in (suc k, omega (arith, below), same)
 
@@ -151,5 +154,6 @@ module _ {A B C : Type 0} (R : A → B → C → Type 0) (a : A) (b : B) (c : C)
       by below (Some e) = keeps e.node _ _ _ (zip3_images R (fold_within a f t n)
           (fold_within b g t n) (fold_within c h t n) below e.children)
 
+  -- three folds whose steps keep a relation are related at each node
   pub fold-related3 : (p : ℕ) → R (fold a f t p) (fold b g t p) (fold c h t p)
   fold-related3 p = fold_within-related3 (length t) p

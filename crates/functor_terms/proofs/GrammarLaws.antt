@@ -38,12 +38,15 @@ Within d Spells ts part = Spells ts part × (part.1 ≤ d) × IsBounded part
 abbrev pub AfterBase : List Sign → Type 0
 AfterBase ts = behind_power ts ≡ None
 
+-- what may follow a power
 abbrev pub AfterPower : List Sign → Type 0
 AfterPower ts = behind_sign is_caret ts ≡ None
 
+-- what may follow a product
 abbrev pub AfterProduct : List Sign → Type 0
 AfterProduct ts = AfterPower ts × (behind_sign is_times ts ≡ None)
 
+-- what may follow a sum
 abbrev pub AfterSum : List Sign → Type 0
 AfterSum ts = AfterProduct ts × (behind_sign is_plus ts ≡ None)
 
@@ -65,6 +68,7 @@ bounded-small node parts (shallow, few) =
     and_from (nat_lt (length (nodes_of parts)) node_limit) (nat_lt (deepest parts) depth_limit)
     (grind (arith, nat_tests)) (grind (arith, nat_tests))
 
+-- what is made is the node over its parts, within the bounds
 pub made_of : (node : Node) (parts : List Part) (ts : List Sign) (y : Part) (rest : List Sign)
     → made_over node parts ts ≡ Some (y, rest) → (over node parts ≡ y) × (ts ≡ rest) × IsBounded
     (over node parts)
@@ -77,6 +81,7 @@ made_of node parts ts y rest e = by (are_small parts) refl e
         (here, there, small-bounded node parts is)
     by false is e = cc
 
+-- a node over parts within the bounds is made
 pub made_at : (node : Node) (parts : List Part) (x : Part) (rest : List Sign) → x ≡ over node parts
     → IsBounded x → made_over node parts rest ≡ Some (x, rest)
 made_at node parts x rest made bounded =
@@ -95,6 +100,7 @@ bounded-child node child x made (shallow, few) =
           omega (arith, less, size, length-append child.0 []) in goal,
     )
 
+-- a child is one level less deep
 pub child-shallower : (d : ℕ) (node : Node) (child x : Part) → x ≡ over node (child ∷ [])
     → x.1 ≤ suc d → child.1 ≤ d
 child-shallower d node child x made fits = let depth : x.1 ≡ max child.1 0 + 1 =
@@ -105,6 +111,7 @@ labels-none : (labels : LabelSet) → SpellsLabels [] labels → ⊥
 labels-none labels (below digits is made are) = cc
 labels-none labels (listed inner words is each made are) = cc
 
+-- no sign spells no base
 pub base-none : (Inside : List Sign → Part → Type 0) (x : Part) → SpellsBase Inside [] x → ⊥
 base-none Inside x (weights t node inner child is stands spelled made) = cc
 base-none Inside x (letter t node is stands made) = cc
@@ -151,6 +158,7 @@ pub record FoundPowers (base : Part) (ts : List Sign) (x : Part) (rest : List Si
   pub made : x ≡ powers base exponents
   pub bounded : IsBounded x
 
+-- exponents that are read are spelled
 pub powers-sound : (n : ℕ) (base : Part) (ts : List Sign) (x : Part) (rest : List Sign)
     → IsBounded base → powers_from n base ts ≡ Some (x, rest) → FoundPowers base ts x rest
 unfolding powers_from
@@ -203,12 +211,14 @@ powers-depth base (labels ∷ others) = omega (
       (over (Power labels) (base ∷ [])) others,
 )
 
+-- exponents add nodes and take none away
 pub powers-size : (base : Part) (exponents : List LabelSet)
     → length base.0 ≤ length (powers base exponents).0
 powers-size base [] = omega arith
 powers-size base (labels ∷ others) =
     omega (arith, powers-size (over (Power labels) (base ∷ [])) others, length-append base.0 [])
 
+-- exponents that are spelled are read
 pub powers-complete : (n : ℕ) (base : Part) (front : List Sign) (exponents : List LabelSet)
     (rest : List Sign) → SpellsExponents front exponents → IsBounded (powers base exponents)
     → AfterPower rest → length exponents < n → powers_from n base (front ++ rest) ≡ Some
@@ -329,6 +339,7 @@ module _ (node : Node) (goes_on : Sign → Bool) (between : Sign) (test : IsTest
           (record { front = found.front; split = found.split; spelled = (inl each.0, each.1) })
       by (part ∷ other ∷ parts) are e = chained (part ∷ other ∷ parts) are (omega arith) e
 
+  -- a chain that is read is spelled
   pub chain-sound : IsSound item (Bounded Spells) → IsSound (chain_at node goes_on item)
       (Bounded (SpellsChain between node Spells))
   chain-sound sound ts x rest e =
@@ -361,6 +372,7 @@ module _ (node : Node) (goes_on : Sign → Bool) (between : Sign) (test : IsTest
   module _ (own : (ts : List Sign) (x : Part) → Spells ts x → IsOwnPart x)
       (MayFollow : List Sign → Type 0) (between_follows : (rest : List Sign)
       → MayFollow (between ∷ rest)) where
+    -- a chain that is spelled is read
     pub chain-complete : (d : ℕ) → IsComplete item (Within d Spells) MayFollow
         → (front : List Sign) (x : Part) (rest : List Sign)
         → Within d (SpellsChain between node Spells) front x → MayFollow rest
@@ -470,6 +482,7 @@ module _ (inside : Reads Part) (Inside : List Sign → Part → Type 0) where
         }
     atom-sound (t ∷ ts) x rest e = letter-sound t ts x rest e
 
+    -- a base that is read is spelled
     pub base-sound : IsSound (base_at inside) (Bounded (SpellsBase Inside))
     base-sound [] x rest e = cc
     base-sound (t ∷ ts) x rest e = by (weights_of t) (behind_power ts) refl refl e

@@ -15,6 +15,7 @@ pub record Found {A : Type 0} (Spelled : List Sign → A → Type 0) (ts : List 
   pub split : ts ≡ front ++ rest
   pub spelled : Spelled front x
 
+-- what is found is found under another name of the same
 pub found_as : {A : Type 0} (Spelled : List Sign → A → Type 0) (ts : List Sign) (x y : A)
     (s r : List Sign) → ◌≡◌ {A = Option (A × List Sign)} (Some (x, s)) (Some (y, r))
     → Found Spelled ts x s → Found Spelled ts y r
@@ -45,6 +46,7 @@ pub if_some : {A : Type 0} (b : Bool) (x y : Option A) (z : A) → y ≡ None
 if_some true x y z none e = (refl, e)
 if_some false x y z none e = cc
 
+-- what is ended was read before the wanted sign
 pub ended_of : {A : Type 0} (passes : Sign → Bool) (sign : Sign) (test : IsTestOf passes sign)
     (x y : A) (ts rest : List Sign) → ended passes x ts ≡ Some (y, rest)
     → (x ≡ y) × (ts ≡ sign ∷ rest)
@@ -57,6 +59,7 @@ ended_of {A = A} passes sign test x y ts rest e = by (behind_sign passes ts) ref
     by (Some s) is e = let (here, there) = some_pair_parts x y s rest e in
         (here, behind_is passes sign test ts s is ∙ ap (λ l. sign ∷ l) there)
 
+-- the wanted sign ends what was read
 pub ended_at : {A : Type 0} (passes : Sign → Bool) (sign : Sign) (test : IsTestOf passes sign)
     (x : A) (rest : List Sign) → ended passes x (sign ∷ rest) ≡ Some (x, rest)
 ended_at {A = A} passes sign test x rest =
@@ -118,6 +121,7 @@ module _ {A : Type 0} (item : Reads A) (passes : Sign → Bool) (between : Sign)
           count = omega (arith, count);
         }
 
+    -- items that are read are spelled
     pub items-sound : (n : ℕ) (before : List A) (ts : List Sign) (items : List A)
         (rest : List Sign) → Kept before → items_from item passes joins n before ts ≡ Some
         (items, rest) → FoundItems Spelled Kept n before ts items rest
@@ -173,6 +177,7 @@ module _ {A : Type 0} (item : Reads A) (passes : Sign → Bool) (between : Sign)
   module _ (Spelled : List Sign → A → Type 0) (MayFollow : List Sign → Type 0)
       (complete : IsComplete item Spelled MayFollow) (between_follows : (rest : List Sign)
       → MayFollow (between ∷ rest)) where
+    -- items that are spelled are read
     pub items-complete : (n : ℕ) (before : List A) (front : List Sign) (more : List A)
         (rest : List Sign) → SpellsEach between Spelled front more → Join before more
         → MayFollow rest → behind_sign passes rest ≡ None → length more ≤ n

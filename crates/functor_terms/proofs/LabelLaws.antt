@@ -215,6 +215,7 @@ below-sound digits ts labels rest e = by (nat_lt 0 (digits_value 10 digits) && n
         }
     by false is e = cc
 
+-- labels that are read are spelled
 pub labels-sound : IsSound labels_at SpellsLabels
 labels-sound [] labels rest e = cc
 labels-sound (Digits digits ∷ ts) labels rest e = below-sound digits ts labels rest e
@@ -227,6 +228,7 @@ below-complete n rest (low, high) = ap (λ b. cond {A = Option (LabelSet × List
     (Some (Below n, rest)) None) (and_from (nat_lt 0 n) (nat_le n label_limit)
     (grind (arith, nat_tests)) (grind (arith, nat_tests)))
 
+-- labels that are spelled are read
 pub labels-complete : IsComplete labels_at SpellsLabels (λ _. Unit {0})
 labels-complete front labels rest (below digits is made are) follows =
     ap (λ l. labels_at (l ++ rest)) is ∙ below-complete (digits_value 10 digits) rest

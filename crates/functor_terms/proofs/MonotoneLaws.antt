@@ -59,6 +59,7 @@ SpellsLevel Inside (suc zero) = SpellsPower Inside
 SpellsLevel Inside (suc (suc zero)) = SpellsProduct Inside
 SpellsLevel Inside (suc (suc (suc n))) = SpellsSum Inside
 
+-- a level over a stronger relation is one over a weaker
 pub level-more : (R S : List Sign → Part → Type 0) → ((ts : List Sign) (x : Part) → R ts x
     → S ts x) → (level : ℕ) (ts : List Sign) (x : Part) → SpellsLevel R level ts x
     → SpellsLevel S level ts x
@@ -121,6 +122,7 @@ powers-push base [] labels = refl
 powers-push base (first ∷ others) labels = powers-push (over (Power first)
     (base ∷ [])) others labels
 
+-- a power and one exponent more is a power
 pub power-push : (Inside : List Sign → Part → Type 0) (ts back : List Sign) (x : Part)
     (labels : LabelSet) → SpellsPower Inside ts x → SpellsLabels back labels
     → SpellsPower Inside (ts ++ Caret ∷ back) (over (Power labels) (x ∷ []))

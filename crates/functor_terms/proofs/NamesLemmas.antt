@@ -12,15 +12,18 @@ use Rattle.functor_terms.specs.Words.{is_same_word, place_of, AreNames}
 use Rattle.functor_terms.proofs.WordLemmas.{IsDistinct-map, place-any}
 use Rattle.indexmap.specs.IndexSet.{insert_key}
 
+-- no words are names
 pub no_names : AreNames []
 unfolding IsDistinct
 no_names = record { distinct = tt; each = tt; few = omega arith }
 
+-- a test of images is a test of what the function makes
 pub list_any-map : {X Y : Type 0} (p : Y → Bool) (f : X → Y) (xs : List X)
     → list_any p (map f xs) ≡ list_any (λ x. p (f x)) xs
 list_any-map p f [] = refl
 list_any-map p f (x ∷ xs) = ap (λ b. p (f x) || b) (list_any-map p f xs)
 
+-- what holds of each of a list and of one more holds of both together
 pub all-push : {X : Type 0} (P : X → Type 0) (xs : List X) (x : X) → AllByRecursion P xs → P x
     → AllByRecursion P (xs ++ x ∷ [])
 all-push P [] x all here = (here, tt)
@@ -73,6 +76,7 @@ module _ {X : Type 0} (now : X → List ℕ) where
   added-place_of ks k r e = by_none (place_of (now k) (map now ks)) (list_any (same k) ks) r
       (place-any (is_same_word (now k)) (map now ks) ∙ list_any-map (is_same_word (now k)) now ks) e
 
+-- other words are other in both orders
 pub apart : (x y : List ℕ) → is_same_word x y ≡ false → is_same_word y x ≡ false
 apart x y h = by (is_same_word y x) refl
   where
@@ -81,6 +85,7 @@ apart x y h = by (is_same_word y x) refl
     by true e = absurd (true≢false
         (sym ((bytes_eq-Decides x y).1 (sym ((bytes_eq-Decides y x).0 e))) ∙ h))
 
+-- what holds of each holds of the word at a place
 pub all_at : (P : List ℕ → Type 0) (xs : List (List ℕ)) → AllByRecursion P xs → (i : ℕ) (w : List ℕ)
     → slice_get xs i ≡ Some w → P w
 all_at P [] all i w e = absurd (none-some w e)

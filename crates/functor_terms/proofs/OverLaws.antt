@@ -19,11 +19,13 @@ deepest-push : (xs : List Part) (x : Part) → deepest (xs ++ x ∷ []) ≡ max 
 deepest-push [] x = omega arith
 deepest-push (y ∷ ys) x = let rest = deepest-push ys x in omega arith
 
+-- the nodes of one part more
 pub nodes-push : (xs : List Part) (x : Part) → nodes_of (xs ++ x ∷ []) ≡ nodes_of xs ++ x.0
 nodes-push [] x = append-nil x.0
 nodes-push (y ∷ ys) x = ap (λ l. y.0 ++ l) (nodes-push ys x)
     ∙ sym (append_assoc y.0 (nodes_of ys) x.0)
 
+-- the nodes of two lists of parts, one behind the other
 pub nodes-append : (xs ys : List Part) → nodes_of (xs ++ ys) ≡ nodes_of xs ++ nodes_of ys
 nodes-append [] ys = refl
 nodes-append (x ∷ xs) ys = ap (λ l. x.0 ++ l) (nodes-append xs ys)
@@ -76,6 +78,7 @@ module _ (parts : List Part) (k : ℕ) (x : Part) (inside : k < length parts)
         length-append (nodes_of (take k parts)) x.0,
       )
 
+  -- the outline of one part more
   pub outline-step : (children pushed : List ℕ) (next size depth deeper : ℕ)
       → IsOutline (take k parts) children next depth → pushed ≡ children ++ next ∷ []
       → size ≡ length x.0 → deeper ≡ max depth x.1

@@ -94,6 +94,7 @@ module _ (Inside : List Sign → Part → Type 0) (is_part : (ts : List Sign) (x
       (over-own (Constant labels) [] refl (labels-are ts labels spelled) tt)
   base-part ts x (group inner is spelled) = is_part inner x spelled
 
+  -- what stands behind prefixes is a part of its own
   pub prefix-part : (ts : List Sign) (x : Part) → SpellsPrefix Inside ts x → IsOwnPart x
   prefix-part [] x spelled = absurd spelled
   prefix-part (t ∷ ts) x (inl spelled) = base-part (t ∷ ts) x spelled
@@ -102,11 +103,13 @@ module _ (Inside : List Sign → Part → Type 0) (is_part : (ts : List Sign) (x
       subst IsOwnPart (sym made) (over-own node (child ∷ []) arity labels
       (prefix-part ts child spelled, tt))
 
+  -- a power is a part of its own
   pub power-part : (ts : List Sign) (x : Part) → SpellsPower Inside ts x → IsOwnPart x
   power-part ts x (front, rest, base, exponents, split, spelled, behind, made) =
       subst IsOwnPart (sym made) (exponents-part rest base exponents behind
       (prefix-part front base spelled))
 
+  -- a product is a part of its own
   pub product-part : (ts : List Sign) (x : Part) → SpellsProduct Inside ts x → IsOwnPart x
   product-part ts x (inl spelled) = power-part ts x spelled
   product-part ts x (inr (parts, two, each, made)) =
@@ -119,6 +122,7 @@ module _ (Inside : List Sign → Part → Type 0) (is_part : (ts : List Sign) (x
       subst IsOwnPart (sym made) (over-own Sum parts (chain-takes (length parts) two).0 tt
       (each-part Plus (SpellsProduct Inside) product-part ts parts each))
 
+-- what stands inside parentheses is a part of its own
 pub inside-part : (n : ℕ) (ts : List Sign) (x : Part) → SpellsInside n ts x → IsOwnPart x
 unfolding SpellsInside
 inside-part zero ts x spelled = absurd spelled

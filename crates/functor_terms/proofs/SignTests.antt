@@ -19,6 +19,7 @@ only_plus : (t : Sign) → is_plus t ≡ true → t ≡ Plus
 only_plus Plus e = refl
 only_plus _ e = cc
 
+-- a plus is told by its test
 pub plus_test : IsTestOf is_plus Plus
 plus_test = record { itself = refl; only = only_plus }
 
@@ -26,6 +27,7 @@ only_times : (t : Sign) → is_times t ≡ true → t ≡ Times
 only_times Times e = refl
 only_times _ e = cc
 
+-- a times is told by its test
 pub times_test : IsTestOf is_times Times
 times_test = record { itself = refl; only = only_times }
 
@@ -33,6 +35,7 @@ only_caret : (t : Sign) → is_caret t ≡ true → t ≡ Caret
 only_caret Caret e = refl
 only_caret _ e = cc
 
+-- a caret is told by its test
 pub caret_test : IsTestOf is_caret Caret
 caret_test = record { itself = refl; only = only_caret }
 
@@ -40,6 +43,7 @@ only_open : (t : Sign) → is_open t ≡ true → t ≡ Open
 only_open Open e = refl
 only_open _ e = cc
 
+-- an open parenthesis is told by its test
 pub open_test : IsTestOf is_open Open
 open_test = record { itself = refl; only = only_open }
 
@@ -47,6 +51,7 @@ only_close : (t : Sign) → is_close t ≡ true → t ≡ Close
 only_close Close e = refl
 only_close _ e = cc
 
+-- a closing parenthesis is told by its test
 pub close_test : IsTestOf is_close Close
 close_test = record { itself = refl; only = only_close }
 
@@ -54,6 +59,7 @@ only_comma : (t : Sign) → is_comma t ≡ true → t ≡ Comma
 only_comma Comma e = refl
 only_comma _ e = cc
 
+-- a comma is told by its test
 pub comma_test : IsTestOf is_comma Comma
 comma_test = record { itself = refl; only = only_comma }
 
@@ -61,6 +67,7 @@ only_brace_end : (t : Sign) → is_brace_end t ≡ true → t ≡ CloseBrace
 only_brace_end CloseBrace e = refl
 only_brace_end _ e = cc
 
+-- the end of braces is told by its test
 pub brace_end_test : IsTestOf is_brace_end CloseBrace
 brace_end_test = record { itself = refl; only = only_brace_end }
 

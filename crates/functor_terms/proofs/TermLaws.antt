@@ -94,6 +94,7 @@ placed-children k (b ∷ nodes) fit (suc p) q found =
     let (low, high) = placed-children (k + 1) nodes fit.1 p q found in
     (omega (arith, low), omega (arith, high))
 
+-- nodes that are placed are as many
 pub placed-length : (k : ℕ) (nodes : Nodes) → length (placed k nodes) ≡ length nodes
 placed-length k [] = refl
 placed-length k (b ∷ nodes) = ap suc (placed-length (k + 1) nodes)
@@ -153,6 +154,7 @@ part-deeper (suc n) (suc m) le part (node, parts, arity, labels, each, made) = (
   made,
 )
 
+-- parts are as deep as the deepest of them
 pub each-deeper : (parts : List Part) (d : ℕ) → deepest parts ≤ d
     → AllByRecursion (λ part. IsPart part.1 part) parts → AllByRecursion (IsPart d) parts
 each-deeper [] d le each = tt
@@ -210,6 +212,7 @@ placed-step done new left rest whole p b y so_far is made pushed =
     ∙ ap (λ x. done ++ x ∷ placed (p + 1) rest) made ∙ sym (ap (λ l. done ++ placed p l) is)
     ∙ so_far
 
+-- what fits over a list of nodes fits over the rest
 pub fit-rest : (left rest : Nodes) (b : Branch) → left ≡ b ∷ rest → ChildrenFit left
     → ChildrenFit rest
 fit-rest left rest b is fit = let whole : ChildrenFit (b ∷ rest) =

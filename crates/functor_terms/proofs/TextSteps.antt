@@ -133,10 +133,12 @@ module _ (t : Nodes) (is : IsTerm t) (p : ℕ) (inside : p < length t) (node : N
   level-at : level_of node ≡ (shown_at t p).level
   level-at = ap level_of at ∙ sym (ap (λ s. s.level) (shown-at t is p inside))
 
+  -- a child that binds as tightly stands as it is
   pub put-same : level_of node ≤ level → own_text ≡ within level (shown_at t p)
   put-same close = text-at
       ∙ sym (within-same level (shown_at t p) (subst (λ n. n ≤ level) level-at close))
 
+  -- a child that binds more loosely stands in parentheses
   pub put-enclosed : level < level_of node → (old before behind : List ℕ)
       → before ≡ old ++ codes "(" → behind ≡ before ++ own_text
       → behind ++ codes ")" ≡ old ++ within level (shown_at t p)

@@ -53,6 +53,7 @@ digit-step b bytes behind digit = λ i.
     else (if b == brace then OpenBrace ∷ behind inside
     else sign_of b ∷ behind outside)))
 
+-- digits alone are one token of digits
 pub lexes-digits : (b : ℕ) (digits : List ℕ) → is_ascii_digit b ≡ true
     → list_all is_ascii_digit digits ≡ true → Lexes (b ∷ digits) (Digits (b ∷ digits) ∷ [])
 unfolding signs_at
@@ -86,6 +87,7 @@ word-step b bytes behind word = λ i.
     else (if b == brace_end then CloseBrace ∷ behind outside
     else Stray ∷ behind inside)))
 
+-- letters up to another byte are one token of a word
 pub lexes-word : (b : ℕ) (word rest : List ℕ) → is_word_byte b ≡ true
     → list_all is_word_byte word ≡ true → begins is_word_byte rest ≡ false
     → signs_at inside (b ∷ (word ++ rest)) ≡ Word (b ∷ word) ∷ signs_at inside rest

@@ -21,6 +21,7 @@ words-none ts words e =
 module _ (ts : List Sign) (words : List (List ℕ)) (left : List Sign)
     (kept : items_from word_at is_comma is_new_name (label_limit - length words) words left
     ≡ words_at ts) where
+  -- past the limit there are no more words
   pub words-out : label_limit ≤ length words → words_at ts ≡ None
   words-out full = loop-out word_at is_comma is_new_name (words_at ts) (label_limit - length words)
       words left kept (let full' : 65536 ≤ length words = full in omega (arith, full'))
@@ -29,17 +30,20 @@ module _ (ts : List Sign) (words : List (List ℕ)) (left : List Sign)
     next : label_limit - length words ≡ suc (label_limit - (length words + 1))
     next = let room' : length words < 65536 = room in omega (arith, room')
 
+    -- where a word is not read there are no words
     pub words-fails : word_at left ≡ None → words_at ts ≡ None
     words-fails e = loop-fails word_at is_comma is_new_name (words_at ts)
         (label_limit - length words) words left kept (label_limit - (length words + 1)) next e
 
     module _ (word : List ℕ) (rest : List Sign) (read : word_at left ≡ Some (word, rest)) where
+      -- inj is no label
       pub words-inj : is_inj word ≡ true → words_at ts ≡ None
       words-inj e = loop-refuses word_at is_comma is_new_name (words_at ts)
           (label_limit - length words) words left kept (label_limit - (length words + 1)) next word
           rest read (joins-inj words word e)
 
       module _ (is : IsWord word) (other : is_inj word ≡ false) where
+        -- a word that was read before is no new label
         pub words-old : (place_of word words ≡ None → ⊥) → words_at ts ≡ None
         words-old old =
             loop-refuses word_at is_comma is_new_name (words_at ts) (label_limit - length words)
@@ -48,6 +52,7 @@ module _ (ts : List Sign) (words : List (List ℕ)) (left : List Sign)
 
         module _ (new : place_of word words ≡ None) (more : List (List ℕ))
             (pushed : more ≡ words ++ word ∷ []) where
+          -- where no comma follows, the words are those that were read
           pub words-ends : behind_sign is_comma rest ≡ None → (same : List Sign) → same ≡ rest
               → words_at ts ≡ Some (more, same)
           words-ends ends same e =
@@ -56,6 +61,7 @@ module _ (ts : List Sign) (words : List (List ℕ)) (left : List Sign)
               (joins-new words word is other new) ends
               ∙ (λ i. Some (sym pushed i, sym e i))
 
+          -- where a comma follows, the words go on
           pub words-goes : (others : List Sign) → behind_sign is_comma rest ≡ Some others
               → items_from word_at is_comma is_new_name (label_limit - length more) more others
               ≡ words_at ts

@@ -91,6 +91,7 @@ module _
       fits_on_side fits-l fits-r s labels → AllRight labels × fits-r b (rights labels)
   fit_right s b labels e h = subst (λ x. fits_on_side fits-l fits-r x labels) e h
 
+  -- the first weight of a left structure is that of the left interface
   pub weight_left :
       (s : Side A B) (a : A) (labels : List (Side L M)) (own : List L) (w : V) → s ≡ Left a →
       fits_on_side fits-l fits-r s labels → own ≡ lefts labels →
@@ -101,6 +102,7 @@ module _
       let all : AllLeft labels = (fit_left s a labels e h).0 in
       rw (e, true-lefts labels all, we, o) refl
 
+  -- the first weight of a right structure is that of the right interface
   pub weight_right :
       (s : Side A B) (b : B) (labels : List (Side L M)) (own : List M) (w : W) → s ≡ Right b →
       fits_on_side fits-l fits-r s labels → own ≡ rights labels →
@@ -111,6 +113,7 @@ module _
       let all : AllRight labels = (fit_right s b labels e h).0 in
       rw (e, true-rights labels all, we, o) refl
 
+  -- the first value of a left structure is that of the left interface
   pub three_left :
       (s : Side A B) (a : A) (labels : List (Side L M)) (own : List L) (x : Three) → s ≡ Left a →
       fits_on_side fits-l fits-r s labels → own ≡ lefts labels →
@@ -120,6 +123,7 @@ module _
       let all : AllLeft labels = (fit_left s a labels e h).0 in
       rw (e, each-lefts 2 labels all, xe, o) refl
 
+  -- the first value of a right structure is that of the right interface
   pub three_right :
       (s : Side A B) (b : B) (labels : List (Side L M)) (own : List M) (x : Three) →
       s ≡ Right b → fits_on_side fits-l fits-r s labels → own ≡ rights labels →
@@ -129,12 +133,14 @@ module _
       let all : AllRight labels = (fit_right s b labels e h).0 in
       rw (e, each-rights 2 labels all, xe, o) refl
 
+  -- the left labels are as many as all
   pub length_left :
       (s : Side A B) (a : A) (labels : List (Side L M)) (own : List L) → s ≡ Left a →
       fits_on_side fits-l fits-r s labels → own ≡ lefts labels → length own ≡ length labels
   length_left s a labels own e h o =
       ap length o ∙ length-lefts labels (fit_left s a labels e h).0
 
+  -- the right labels are as many as all
   pub length_right :
       (s : Side A B) (b : B) (labels : List (Side L M)) (own : List M) → s ≡ Right b →
       fits_on_side fits-l fits-r s labels → own ≡ rights labels → length own ≡ length labels
@@ -173,6 +179,7 @@ module _
       sym e ∙ cell.weight_is in
       absurd (cc)
 
+  -- a cell of the right side is one of the right interface
   pub cell_right :
       (w : W) (weight : Side V W) (moved : List (Side L M)) (own : List M) (s : Side A B)
       (labels : List (Side L M)) (trits : List ℕ) → weight ≡ Right w → own ≡ rights moved →
@@ -221,6 +228,7 @@ module _
         void_is = u.void_is;
       })
 
+  -- an update on the right side is one of the right interface
   pub updated_right :
       (rest part : W) (three void : Three) (b : B) (labels : List (Side L M)) (trits : List ℕ)
       (s : Side A B) → s ≡ Right b →

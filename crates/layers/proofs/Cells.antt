@@ -1,5 +1,5 @@
 -- What the weights of the compact interface tell of a structure.
-use Rattle.std.proofs.Common.{◌≡◌, ◌+◌, ◌*◌, ◌-◌, ◌^◌, ◌<◌, ◌≤◌, ◌==◌, ℕ, Bool, true, false, cond, List, [], ◌∷◌, length, map, refl, sym, ◌∙◌, ap, arith}
+use Rattle.std.proofs.Common.{◌≡◌, ◌*◌, ◌-◌, ◌^◌, ◌<◌, ◌≤◌, ◌==◌, ℕ, Bool, true, false, cond, List, [], ◌∷◌, length, map, refl, sym, ◌∙◌, ap, arith}
 use Rattle.std.specs.Prelude.{ℤ, pos, nat_le}
 use Rattle.std.proofs.lemmas.Bool.{leb-true}
 use Rattle.std.proofs.lemmas.List.{length-map}
@@ -21,7 +21,6 @@ use Rattle.layers.specs.declared.shape.Class.{Class}
 use Rattle.layers.specs.declared.shape.Class.TheVariants as class
 use Rattle.layers.specs.declared.weight.PlacesWeight.{PlacesWeight}
 use Rattle.layers.specs.declared.weight.MarksWeight.{MarksWeight}
-use Rattle.layers.specs.declared.weight.Opened.{Opened}
 use Rattle.layers.specs.declared.weight.Opened.TheVariants as opened
 use Rattle.layers.specs.Bits.{bits_of, powers, trits_of}
 use Rattle.layers.specs.Meanings.{weights_at, form_of, fits_class, over, sums_of, value_of_class, wide_of}
@@ -44,6 +43,7 @@ no_sums :
 no_sums true w p m e = cc
 no_sums false w p m e = cc
 
+-- a weight that is one of a set is of the class of sets
 pub set_weight :
     (ws : List ℤ) (k : Class) (s : ℕ) (ls : List ℕ) (ms : List Bool) (w : SetWeight) →
     opened.Set w ≡ wide_of ws k s ls ms → (k ≡ class.Set) × (w ≡ toward_of_set ms)
@@ -91,6 +91,7 @@ marks_weight ws (class.Form f) s ls ms w e =
     (record { shape = s; marks = bits_of ms }) e in
     (refl, is.1, is.0)
 
+-- a weight that is one of sums is of a class of sums
 pub sums_weight :
     (ws : List ℤ) (k : Class) (s : ℕ) (ls : List ℕ) (ms : List Bool) (w : SumsWeight) →
     opened.Sums w ≡ wide_of ws k s ls ms →
@@ -104,6 +105,7 @@ sums_weight ws (class.Sums b) s ls ms w e =
     let same : w ≡ sums_of b (toward_of_group (pos 0) add (weights_at ws ls) ms) = cc in
     (ap class.Sums (sym (ap (λ (v : SumsWeight). v.scaled) same)), ap group_of same)
 
+-- the value of a set is that of the class
 pub set_value :
     (k : Class) → k ≡ class.Set → (d : ℕ) (ws : List ℤ) (ls ts : List ℕ) →
     value_of_set ts ≡ value_of_class d ws k ls ts
@@ -111,6 +113,7 @@ set_value class.Set e d ws ls ts = refl
 set_value (class.Sums b) e d ws ls ts = cc
 set_value (class.Form f) e d ws ls ts = cc
 
+-- the value of sums is that of the class
 pub sums_value :
     (k : Class) (b : Bool) → k ≡ class.Sums b → (d : ℕ) (ws : List ℤ) (ls ts : List ℕ) →
     value_of_group (λ x. x) (pos 0) add (over d b) (weights_at ws ls) ts
@@ -124,6 +127,7 @@ form_value class.Set e d ws ls ts = cc
 form_value (class.Sums b) e d ws ls ts = cc
 form_value (class.Form f) e d ws ls ts = refl
 
+-- the weight of a set is that of the class
 pub set_toward :
     (ws : List ℤ) (k : Class) → k ≡ class.Set → (s : ℕ) (ls : List ℕ) (ms : List Bool) →
     opened.Set (toward_of_set ms) ≡ wide_of ws k s ls ms
@@ -131,6 +135,7 @@ set_toward ws class.Set e s ls ms = refl
 set_toward ws (class.Sums b) e s ls ms = cc
 set_toward ws (class.Form f) e s ls ms = cc
 
+-- the weight of sums is that of the class
 pub sums_toward :
     (ws : List ℤ) (k : Class) (b : Bool) → k ≡ class.Sums b →
     (s : ℕ) (ls : List ℕ) (ms : List Bool) →
@@ -154,6 +159,7 @@ many_toward ws class.Set e large s ls ms = cc
 many_toward ws (class.Sums b) e large s ls ms = cc
 many_toward ws (class.Form f) e large s ls ms = rw large refl
 
+-- weights that fit have a sum within its bound
 pub sums_fit :
     (ws : List ℤ) (k : Class) (b : Bool) → k ≡ class.Sums b → (ls : List ℕ) →
     fits_class ws k ls → size_of (λ x. x) (weights_at ws ls) ≤ 2 ^ 106
@@ -182,6 +188,7 @@ form_fits ws class.Set e ls fit = cc
 form_fits ws (class.Sums b) e ls fit = cc
 form_fits ws (class.Form f) e ls fit = fit
 
+-- a class of a form is the class of its form
 pub of_form :
     (k : Class) (f : Form) → k ≡ class.Form f → (k ≡ class.Form (form_of k)) × (f ≡ form_of k)
 of_form class.Set f e = cc
@@ -195,6 +202,7 @@ once n = omega arith
 module _
     (ws : List ℤ) (k : Class) (is_form : k ≡ class.Form (form_of k)) (ls : List ℕ)
     (fit : fits_class ws k ls) where
+  -- a label for each place
   pub as_many : length ls ≡ arity (form_of k)
   as_many =
       ap length (form_fits ws k is_form ls fit) ∙ length-numbers_from 0 (arity (form_of k))
@@ -207,12 +215,14 @@ module _
       ap powers (form_fits ws k is_form ls fit ∙ ap (numbers_from 0) (sym as_many))
       ∙ powers-all 0 ls ∙ once (bits_of every)
 
+  -- few places have a small number of bits
   pub few_marks : nat_le (arity (form_of k)) 64 ≡ true → powers ls < 2 ^ 64
   few_marks small =
       let below : arity (form_of k) ≤ 64 = leb-true (arity (form_of k)) 64 small in
       let count : length every ≡ length ls = length-map ls (λ _. true) in
       rw all_marks (few_bits every (omega (arith, count, as_many, below)))
 
+  -- the first weight of few places is that of the class
   pub all_weight :
       nat_le (arity (form_of k)) 64 ≡ true → (s n : ℕ) → n ≡ powers ls →
       opened.Places (record { shape = s; marks = n }) ≡ wide_of ws k s ls every
@@ -220,6 +230,7 @@ module _
       ap (λ m. opened.Places (record { shape = s; marks = m })) (n_is ∙ all_marks)
       ∙ form_toward ws k is_form small s ls every
 
+  -- the first value of few places is that of the class
   pub all_twos :
       (d n : ℕ) (f : Form) (x : Three) → f ≡ form_of k → n ≡ powers ls →
       x ≡ value_of_form f (trits_of (arity f) 0 n) →
@@ -238,6 +249,7 @@ module _
       ap (λ us. opened.Many (record { shape = s; marks = us })) ms_is
       ∙ many_toward ws k is_form large s ls every
 
+  -- the first value of many places is that of the class
   pub many_twos :
       (d : ℕ) (f : Form) (x : Three) (ts : List ℕ) → f ≡ form_of k → ts ≡ each 2 ls →
       x ≡ value_of_form f ts → x ≡ value_of_class d ws k ls (each 2 ls)
@@ -258,6 +270,7 @@ module _
     small : nat_le (arity (form_of k)) 64 ≡ true
     small = (places_weight ws k s ls (in_coarse ts) w weight_is).2
 
+    -- the weight keeps the number of its shape
     pub shape_is : w.shape ≡ s
     shape_is =
         ap (λ (v : PlacesWeight). v.shape) (places_weight ws k s ls (in_coarse ts) w weight_is).1
@@ -275,6 +288,7 @@ module _
         (form_fits ws k is_form ls fit ∙ ap (numbers_from 0) (sym count)))
         ∙ powers-picked 0 ts ∙ once (bits_of (in_splitter ts))
 
+    -- the bits of the places that move are a small number
     pub few_moved : powers moved < 2 ^ 64
     few_moved =
         let below : arity (form_of k) ≤ 64 = leb-true (arity (form_of k)) 64 small in
@@ -282,24 +296,28 @@ module _
         rw part_is (few_bits (in_splitter ts)
         (omega (arith, many, count, below)))
 
+    -- the places that move are some of those in the block
     pub fewer : powers moved ≤ w.marks
     fewer = rw (part_is, marks_is) (omega (arith, bits_parts ts trits))
 
     rest_now : w.marks - powers moved ≡ bits_of (in_rest ts)
     rest_now = rw (part_is, marks_is) (omega (arith, bits_parts ts trits))
 
+    -- the weight of the places that stay is that towards the rest
     pub rest_is :
         (r m : ℕ) → r ≡ w.shape → m ≡ w.marks - powers moved →
         opened.Places (record { shape = r; marks = m }) ≡ wide_of ws k s ls (in_rest ts)
     rest_is r m r_is m_is =
         rw (r_is, shape_is, m_is, rest_now) (form_toward ws k is_form small s ls (in_rest ts))
 
+    -- the weight of the places that move is that towards the splitter
     pub part_weight :
         (r m : ℕ) → r ≡ w.shape → m ≡ powers moved →
         opened.Places (record { shape = r; marks = m }) ≡ wide_of ws k s ls (in_splitter ts)
     part_weight r m r_is m_is =
         rw (r_is, shape_is, m_is, part_is) (form_toward ws k is_form small s ls (in_splitter ts))
 
+    -- the value of the places towards both blocks is that of the class
     pub three_is :
         (d m n : ℕ) (f : Form) (x : Three) → f ≡ form_of k → m ≡ w.marks - n → n ≡ powers moved →
         x ≡ value_of_form f (trits_of (arity f) m n) →
@@ -310,6 +328,7 @@ module _
         (rw (m_is, n_is, rest_now, part_is, sym count) (trits-parts ts trits))
         ∙ form_value k is_form d ws ls ts
 
+    -- the value of the places of an untouched member is that of the class
     pub void_is :
         (d m : ℕ) (f : Form) (x : Three) → f ≡ form_of k → m ≡ w.marks →
         x ≡ value_of_form f (trits_of (arity f) m 0) →
@@ -332,6 +351,7 @@ module _
     large : nat_le (arity (form_of k)) 64 ≡ false
     large = (marks_weight ws k s ls (in_coarse ts) w weight_is).2
 
+    -- the weight keeps the number of its shape
     pub number_is : w.shape ≡ s
     number_is =
         ap (λ (v : MarksWeight). v.shape) (marks_weight ws k s ls (in_coarse ts) w weight_is).1
@@ -340,6 +360,7 @@ module _
     marks_are =
         ap (λ (v : MarksWeight). v.marks) (marks_weight ws k s ls (in_coarse ts) w weight_is).1
 
+    -- a mark for each place
     pub marks_count : length w.marks ≡ arity (form_of k)
     marks_count =
         ap length marks_are ∙ length-map ts (λ t. nat_le 1 t) ∙ one_each
@@ -351,6 +372,7 @@ module _
         (form_fits ws k of_many ls fit) one_each trits (ap (toward_of_form (form_of k)) marks_are)
         moved_is
 
+    -- a weight of many places is that of the class
     pub many_weight :
         (r : ℕ) (f : ℕ → Bool) (ms : List Bool) → r ≡ w.shape →
         ms ≡ map f (trits_from w.marks 0 moved) →
@@ -358,6 +380,7 @@ module _
     many_weight r f ms r_is ms_is =
         rw (r_is, number_is, ms_is, found_is) (many_toward ws k of_many large s ls (map f ts))
 
+    -- a value of many places is that of the class
     pub many_value :
         (d : ℕ) (f : Form) (x : Three) (g : List ℕ → List ℕ) → f ≡ form_of k →
         x ≡ value_of_form f (g (trits_from w.marks 0 moved)) → x ≡ value_of_class d ws k ls (g ts)

@@ -1,5 +1,5 @@
 -- A weight that is kept packed.
-use Rattle.std.proofs.Common.{◌≡◌, ℕ, Bool, true, false, cond, List, map, refl, sym, ◌∙◌, ap}
+use Rattle.std.proofs.Common.{◌≡◌, ℕ, Bool, true, false, cond, List, refl, ◌∙◌, ap}
 use Rattle.std.specs.Prelude.{ℤ, ◌&&◌}
 use Rattle.modalities.specs.declared.three.Three.{Three}
 use Rattle.iface.specs.Structures.{IsCell, IsUpdated}
@@ -11,7 +11,7 @@ use Rattle.layers.specs.declared.weight.Opened.{Opened}
 use Rattle.layers.specs.declared.weight.Opened.TheVariants as opened
 use Rattle.layers.specs.declared.weight.LayerWeight.{LayerWeight}
 use Rattle.layers.specs.declared.weight.LayerWeight.TheVariants as weight
-use Rattle.layers.specs.Packing.{is_narrow, pack, pack_sums, opened_of}
+use Rattle.layers.specs.Packing.{is_narrow, pack, opened_of}
 use Rattle.layers.specs.Meanings.{shape_at, shape_of, label_of, fits_layer, value_layer, wide_toward, toward_layer}
 use Rattle.layers.specs.LayerLaws.{class_value}
 
@@ -37,6 +37,7 @@ opened-pack (opened.Sums w) =
 module _
     (d : ℕ) (shapes : List LayerShape) (ws : List ℤ) (moved : List ℕ) (s : ℕ)
     (ls : List ℕ) (ts : List ℕ) where
+  -- a cell of packed weights is one of opened ones
   pub cell_opened :
       (w : LayerWeight) →
       IsCell (fits_layer shapes ws) (toward_layer shapes ws) w moved s ls ts →
@@ -49,12 +50,14 @@ module _
     moved_is = k.moved_is;
   }
 
+  -- the value of a layer is that of its shape and labels
   pub value_is :
       (us : List ℕ) →
       value_layer d shapes ws s ls us
       ≡ value_by (shape_of shapes) (label_of shapes ws) (any_value d) s ls us
   value_is us = class_value d ws (shape_at shapes s).kind (shape_at shapes s).node ls us
 
+  -- an update of opened weights is one of packed ones
   pub updated_packed :
       (rest part : Opened) (three void : Three) (kept_rest kept_part : LayerWeight) →
       kept_rest ≡ pack rest → kept_part ≡ pack part →

@@ -1,5 +1,5 @@
 -- What the weights of the compact interface tell of a structure with weights.
-use Rattle.std.proofs.Common.{◌≡◌, ◌+◌, ◌*◌, ◌-◌, ◌^◌, ◌<◌, ◌≤◌, ◌==◌, ℕ, Bool, true, false, cond, List, [], ◌∷◌, length, map, refl, sym, ◌∙◌, ap, arith}
+use Rattle.std.proofs.Common.{◌≡◌, ◌*◌, ◌^◌, ◌≤◌, ℕ, Bool, true, List, [], ◌∷◌, map, refl, ◌∙◌, ap, arith}
 use Rattle.std.specs.Prelude.{ℤ, pos, ◌-ℤ◌, unsigned_abs}
 use Rattle.std.specs.Int.{w128}
 use Rattle.std.proofs.Common.{to_z, of_z}
@@ -8,8 +8,6 @@ use Rattle.modalities.specs.declared.three.Three.{Three}
 use Rattle.weights.specs.Sums.{size_of}
 use Rattle.weights.specs.MonoidLaws.{integers_laws, integers_undo}
 use Rattle.iface.specs.Trits.{AreTrits, each, picked, in_coarse, in_rest, in_splitter, without_splitter}
-use Rattle.monoid_iface.specs.declared.weight.GroupShape.{GroupShape}
-use Rattle.monoid_iface.specs.declared.weight.GroupWeight.{GroupWeight}
 use Rattle.monoid_iface.specs.Groups.{total, toward_of_group, value_of_sums, value_of_group}
 use Rattle.monoid_iface.proofs.Moved as groups
 use Rattle.layers.specs.Nest.{add}
@@ -17,7 +15,6 @@ use Rattle.decoding.specs.Laws.{each-map}
 use Rattle.layers.specs.declared.weight.SumsWeight.{SumsWeight}
 use Rattle.layers.specs.declared.shape.Class.{Class}
 use Rattle.layers.specs.declared.shape.Class.TheVariants as class
-use Rattle.layers.specs.declared.weight.Opened.{Opened}
 use Rattle.layers.specs.declared.weight.Opened.TheVariants as opened
 use Rattle.layers.specs.Meanings.{weight_at, weights_at, fits_class, over, sums_of, value_of_class, wide_of}
 use Rattle.layers.proofs.Cells.{group_of, sums_weight, sums_value, sums_toward, sums_fit, picked-map}
@@ -36,11 +33,13 @@ kept z h = to_z-of_z w128 z (fits_signed_from_abs w128 z (omega (arith, h)))
 
 -- weights at the start
 module _ (ws : List ℤ) (k : Class) (b : Bool) (is_sums : k ≡ class.Sums b) (ls : List ℕ) where
+  -- three times the size of all labels fits 127 bits
   pub small_start : fits_class ws k ls → 3 * size_of (λ x. x) (weights_at ws ls) ≤ 2 ^ 126
   small_start fit =
       let few : size_of (λ x. x) (weights_at ws ls) ≤ 2 ^ 106 = sums_fit ws k b is_sums ls fit in
       omega (arith, few)
 
+  -- the first weight of sums is that of the class
   pub start_weight :
       (s : ℕ) (inside outside : ℤ) → inside ≡ total (pos 0) add (weights_at ws ls) →
       outside ≡ pos 0 →
@@ -52,6 +51,7 @@ module _ (ws : List ℤ) (k : Class) (b : Bool) (is_sums : k ≡ class.Sums b) (
       ∙ ap (toward_of_group (pos 0) add (weights_at ws ls)) (all_true (weight_at ws) ls))
       ∙ sums_toward ws k b is_sums s ls (map (λ _. true) ls)
 
+  -- the first value of sums is that of the class
   pub start_value :
       (d n : ℕ) → n ≡ over d b → (inside outside : ℤ) →
       inside ≡ total (pos 0) add (weights_at ws ls) → outside ≡ pos 0 →
@@ -91,31 +91,37 @@ module _
     abbrev minus : ℤ → ℤ → ℤ
     minus a b = a -ℤ b
 
+    -- three times the size of what moves fits 127 bits
     pub small_gone : 3 * size_of (λ x. x) gone ≤ 2 ^ 126
     small_gone =
         groups.small_moved same (pos 0) add integers_laws minus integers_undo xs ts trits few
         (group_of w) gone as_group gone_is
 
+    -- the sum inside is within its bound
     pub small_inside : unsigned_abs w.inside ≤ 2 ^ 106
     small_inside =
         groups.small_inside same (pos 0) add integers_laws minus integers_undo xs ts trits few
         (group_of w) gone as_group gone_is
 
+    -- the sum outside is within its bound
     pub small_outside : unsigned_abs w.outside ≤ 2 ^ 106
     small_outside =
         groups.small_outside same (pos 0) add integers_laws minus integers_undo xs ts trits few
         (group_of w) gone as_group gone_is
 
+    -- the sum of what moves is within its bound
     pub small_part : unsigned_abs (total (pos 0) add gone) ≤ 2 ^ 106
     small_part =
         groups.small_part same (pos 0) add integers_laws minus integers_undo xs ts trits few
         (group_of w) gone as_group gone_is
 
+    -- the sum of what stays is within its bound
     pub small_rest : unsigned_abs (w.inside -ℤ total (pos 0) add gone) ≤ 2 ^ 106
     small_rest =
         groups.small_rest same (pos 0) add integers_laws minus integers_undo xs ts trits few
         (group_of w) gone as_group gone_is
 
+    -- sums whose part has moved are the weights and values of an update
     pub sums_updated :
         (d n : ℕ) → n ≡ over d w.scaled → (part rest other others : ℤ) →
         part ≡ total (pos 0) add gone → rest ≡ w.inside -ℤ part → other ≡ add w.outside part →

@@ -39,6 +39,7 @@ module _
       pub told : add sum (total none add rest) ≡ total none add all
       pub small : number_size sum + size rest ≤ size all
 
+    -- the sum of no element so far
     pub so_far_none : (xs : List E) → 3 * size xs ≤ 2 ^ 126 → IsSoFar none xs xs
     so_far_none xs h =
         let bound : number_size (total none add xs) ≤ size xs = size-total xs (omega arith) in
@@ -49,6 +50,7 @@ module _
           small = omega (arith, none_size);
         }
 
+    -- one element more of a sum so far
     pub so_far_more :
         (sum x : E) (rest all : List E) → 3 * size all ≤ 2 ^ 126 →
         IsSoFar sum (x ∷ rest) all → IsSoFar (add sum x) rest all
@@ -146,11 +148,13 @@ module _
     module _
         (xs : List E) (inside outside : E) (inside_is : inside ≡ total none add xs)
         (outside_is : outside ≡ none) where
+      -- the first weight of a group is the definition's
       pub all_weight :
           ◌≡◌ {A = GroupWeight E} (record { outside = outside; inside = inside })
           (toward_of_group none add xs (map (λ _. true) xs))
       all_weight = rw (inside_is, outside_is, none-all xs, total-all xs) refl
 
+      -- the first value of a group is the definition's
       pub all_value :
           (d : ℕ) (three : Three) → three ≡ value_of_sums number none add d outside outside inside →
           three ≡ value_of_group number none add d xs (each 2 xs)
@@ -174,6 +178,7 @@ module _
       part_is : total none add moved ≡ sum_at (λ t. t == 2) xs ts
       part_is = ap (total none add) moved_is ∙ total-picked xs ts
 
+      -- three times the size of what moves fits 127 bits
       pub small_moved : 3 * size moved ≤ 2 ^ 126
       small_moved = rw moved_is (omega (arith, size-picked xs ts, few))
 
@@ -181,12 +186,15 @@ module _
       small_if p =
           omega (arith, size-sum_if number none add laws p xs ts (omega (arith, few)), few)
 
+      -- the sum inside is within its bound
       pub small_inside : number_size weight.inside ≤ 2 ^ 106
       small_inside = rw inside_is (small_if (λ t. nat_le 1 t))
 
+      -- the sum outside is within its bound
       pub small_outside : number_size weight.outside ≤ 2 ^ 106
       small_outside = rw outside_is (small_if (λ t. not (nat_le 1 t)))
 
+      -- the sum of what moves is within its bound
       pub small_part : number_size (total none add moved) ≤ 2 ^ 106
       small_part = rw part_is (small_if (λ t. t == 2))
 
@@ -207,6 +215,7 @@ module _
           (sum_at (λ t. t == 2) xs ts)
           (omega (arith, small_if (λ t. t == 1), small_if (λ t. t == 2))))
 
+      -- the sum of what stays is within its bound
       pub small_rest : number_size (sub weight.inside (total none add moved)) ≤ 2 ^ 106
       small_rest = rw rest_of (small_if (λ t. t == 1))
 
@@ -258,6 +267,7 @@ module _
         part_now : part ≡ sum_at (λ t. t == 2) xs ts
         part_now = part_e ∙ part_is
 
+        -- sums whose part has moved are the weights and values of an update
         pub updated :
             (d : ℕ) (nothing : E) → nothing ≡ none → (three void : Three) →
             three ≡ value_of_sums number none add d weight.outside rest part →

@@ -19,6 +19,7 @@ layer_bounded x = within_step (2 ^ 126) (map-Value Value Bool is_bounded x)
 abbrev pub tested : List (Value × ℤ) → List (Bool × ℤ)
 tested ws = map (λ e. (is_bounded e.0, e.1)) ws
 
+-- whether each entry passes
 abbrev pub all_pass : List (Bool × ℤ) → Bool
 all_pass ws = list_all (λ c. c.0) ws
 
@@ -29,6 +30,7 @@ sum_tested (w ∷ ws) =
     ∙ ap (λ n. unsigned_abs w.1 + n) (sum_tested ws)
     ∙ sym (sum_by-cons (λ (e : Value × ℤ). unsigned_abs e.1) w ws)
 
+-- the parts of a bounded value are bounded
 pub parts_bounded : (v : Value) → is_bounded v ≡ true → list_all is_bounded (parts v) ≡ true
 parts_bounded v h = by (out-Value v) (sym (bounded_out v) ∙ h)
   where
@@ -51,6 +53,7 @@ inner_bounded v h = by (out-Value v) (sym (bounded_out v) ∙ h)
     by (Value-F.Inj k v) e = e
     by (Value-F.Weights es) e = h
 
+-- the elements of bounded weights are bounded
 pub entries_bounded : (v : Value) → is_bounded v ≡ true → list_all (λ e. is_bounded e.0) (entries v)
     ≡ true
 entries_bounded v h = by (out-Value v) (sym (bounded_out v) ∙ h)
@@ -66,6 +69,7 @@ entries_bounded v h = by (out-Value v) (sym (bounded_out v) ∙ h)
         sym (list_all-map (λ (e : Bool × ℤ). e.0) (λ (e : Value × ℤ). (is_bounded e.0, e.1)) es)
         ∙ (and_parts (all_pass (tested es)) (nat_le (absolute_sum (tested es)) (2 ^ 126)) h).0
 
+-- the absolute weights of a bounded value have a sum within its bound
 pub entries_within : (v : Value) → is_bounded v ≡ true → absolute_sum (entries v) ≤ 2 ^ 126
 entries_within v h = by (out-Value v) (sym (bounded_out v) ∙ h)
   where
@@ -131,6 +135,7 @@ module _ (b : List ℕ) where
       (kept_level y)
       ∙ sym (bounded_out (roll-Value x) ∙ ap layer_bounded (out-roll-Value x)))
 
+  -- relabelled values of a list are bounded
   pub all_kept : (vs : List Value) → list_all is_bounded vs ≡ true
       → list_all is_bounded (map (relabelled b) vs) ≡ true
   all_kept [] h = refl

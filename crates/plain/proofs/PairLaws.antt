@@ -3,8 +3,7 @@ use Rattle.std.proofs.Common.{◌≡◌, ℕ, zero, suc, ◌+◌, Bool, not, con
 use Rattle.std.specs.Prelude.{◌==◌, if◌then◌else◌, slice_index}
 use Rattle.std.specs.List.{position_or_len}
 use Rattle.std.specs.Option.{option_map}
-use Rattle.std.proofs.lemmas.Bool.{and_parts, and_from}
-use Rattle.std.proofs.lemmas.Bool.Decides.{nat_tests}
+use Rattle.std.proofs.lemmas.Bool.{and_parts, and_from, eqb-true, eq-eqb}
 use Rattle.std.proofs.lemmas.List.{length-map}
 use Rattle.std.proofs.lemmas.Option.{slice_get-map, none-some, same_Some}
 use Rattle.functor_terms.specs.Terms.{Nodes}
@@ -23,12 +22,6 @@ unless : (c x : Bool) → (c ≡ true → x ≡ true) → (if c then x else true
 unless true x f = f refl
 unless false x f = refl
 
-same_number : (n l : ℕ) → (n == l) ≡ true → n ≡ l
-same_number n l h = grind (arith, nat_tests)
-
-number_same : (n l : ℕ) → n ≡ l → (n == l) ≡ true
-number_same n l h = grind (arith, nat_tests)
-
 module _ (t : Nodes) where
   -- what the test of one value says
   like_at : (n : ℕ) (u : Value) (ls : List ℕ) (vs : List Value) → length ls ≡ length vs
@@ -38,7 +31,7 @@ module _ (t : Nodes) where
   like_at n u [] (w ∷ vs) c h j v at e = absurd (omega (arith, c))
   like_at n u (l ∷ ls) (w ∷ vs) c h zero v at e =
       subst (λ x. are_equal t 0 u x ≡ true) (same_Some w v at)
-      (when (n == l) (are_equal t 0 u w) (number_same n l e)
+      (when (n == l) (are_equal t 0 u w) (eq-eqb n l e)
       (and_parts (if n == l then are_equal t 0 u w else true) (are_like t n u ls vs) h).0)
   like_at n u (l ∷ ls) (w ∷ vs) c h (suc j) v at e =
       like_at n u ls vs (omega (arith, c)) (and_parts (if n == l then are_equal t 0 u w else true)
@@ -51,7 +44,7 @@ module _ (t : Nodes) where
   like_from n u (l ∷ ls) [] f = refl
   like_from n u (l ∷ ls) (w ∷ vs) f =
       and_from (if n == l then are_equal t 0 u w else true) (are_like t n u ls vs)
-      (unless (n == l) (are_equal t 0 u w) (λ h. f 0 w refl (same_number n l h)))
+      (unless (n == l) (are_equal t 0 u w) (λ h. f 0 w refl (eqb-true n l h)))
       (like_from n u ls vs (λ j v at e. f (suc j) v at e))
 
   -- and what it says of all
@@ -81,6 +74,7 @@ module _ (t : Nodes) where
       (alike_from ks us bs vs (λ i j u v at at' e. f (suc i) j u v at at' e))
 
 module _ (t : Nodes) (values : List Value) (b : List ℕ) where
+  -- a list under which equal values are those with equal numbers is stable
   pub stable_from : length b ≡ length values
       → all_alike t b (map (relabelled b) values) b (map (relabelled b) values) ≡ true
       → IsStable t values b
@@ -96,6 +90,7 @@ module _ (t : Nodes) (values : List Value) (b : List ℕ) where
       count : length (map (relabelled b) values) ≡ length values
       count = rw length-map
 
+  -- equal values have equal numbers where the list is stable
   pub stable_to : IsStable t values b
       → all_alike t b (map (relabelled b) values) b (map (relabelled b) values) ≡ true
   stable_to is = alike_from t b (map (relabelled b) values) b (map (relabelled b) values)

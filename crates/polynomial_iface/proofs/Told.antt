@@ -42,10 +42,12 @@ told_from first (suc (suc zero) ∷ ts) trits =
     rw (eq-eqb first first refl) (ap (λ us. 2 ∷ us) (told_from (first + 1) ts trits.1))
 told_from first (suc (suc (suc t)) ∷ ts) trits = absurd (omega arith)
 
+-- a 2 for each label
 pub replicate-each : {L : Type 0} (labels : List L) → replicate (length labels) 2 ≡ each 2 labels
 replicate-each [] = refl
 replicate-each (x ∷ xs) = ap (λ ts. 2 ∷ ts) (replicate-each xs)
 
+-- a mark that is set for each label
 pub replicate-true :
     {L : Type 0} (labels : List L) → replicate (length labels) true ≡ map (λ _. true) labels
 replicate-true [] = refl
@@ -62,11 +64,13 @@ module _
   pub count_is : length ts ≡ arity form
   count_is = one_each ∙ ap length fit ∙ length-numbers_from 0 (arity form)
 
+  -- a mark for each place
   pub marks_count : length weight.marks ≡ arity weight.form
   marks_count =
       ap (λ (w : PolyWeight). length w.marks) weight_is ∙ length-map ts (λ t. nat_le 1 t)
       ∙ count_is ∙ ap arity (sym form_is)
 
+  -- the trits that are read off the marks are those of the places
   pub told : trits_from weight.marks 0 moved ≡ ts
   told =
       let marks_is : weight.marks ≡ in_coarse ts = ap (λ (w : PolyWeight). w.marks) weight_is in
@@ -77,12 +81,14 @@ module _
     pub found_told : found ≡ ts
     found_told = found_is ∙ told
 
+    -- marks read off the trits are those of the weight's definition
     pub toward_is :
         (f : ℕ → Bool) (marks : List Bool) → marks ≡ map f found →
         ◌≡◌ {A = PolyWeight} (record { form = weight.form; marks = marks })
         (toward_of_form form (map f ts))
     toward_is f marks e = rw (form_is, e, found_told) refl
 
+    -- a value read off the trits is that of the definition
     pub value_is :
         (x : Three) (us : List ℕ) (f : List ℕ → List ℕ) → us ≡ f found →
         x ≡ value_of_form weight.form us → x ≡ value_of_form form (f ts)

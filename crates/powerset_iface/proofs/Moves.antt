@@ -109,6 +109,7 @@ pub each_two :
 each_two [] = (refl, refl, refl)
 each_two (x ∷ xs) = ((each_two xs).0, (each_two xs).1, sym (above (length xs)))
 
+-- weights with equal parts are equal
 pub same_weight :
     (a b : Bool) (m n : ℕ) → a ≡ b → m ≡ n →
     ◌≡◌ {A = SetWeight} (record { outside = a; inside = m }) (record { outside = b; inside = n })
@@ -118,6 +119,7 @@ same_weight a b m n p q = rw (p, q) refl
 abbrev pub bits_of : Bool → Bool → Bool → ℕ
 bits_of a b c = cond a 1 0 + cond b 2 0 + cond c 4 0
 
+-- equal tests have equal bits
 pub same_bits : (a b c x y z : Bool) → a ≡ x → b ≡ y → c ≡ z → bits_of a b c ≡ bits_of x y z
 same_bits a b c x y z p q r = rw (p, q, r) refl
 
@@ -131,6 +133,7 @@ module _
   outside_is : weight.outside ≡ some_outside (in_coarse ts)
   outside_is = ap (λ (w : SetWeight). w.outside) weight_is
 
+  -- the elements that move are some of those inside
   pub fewer : length moved ≤ weight.inside
   fewer =
       let k : Counts labels ts = counts labels ts one_each trits in
@@ -141,6 +144,7 @@ module _
       let k : Counts labels ts = counts labels ts one_each trits in
       rw (inside_is, moved_is) (omega (arith, k.coarse))
 
+  -- the weight of what stays is that towards the rest
   pub rest_is :
       ◌≡◌ {A = SetWeight}
       (record {
@@ -152,6 +156,7 @@ module _
       let k : Counts labels ts = counts labels ts one_each trits in
       same_weight _ _ _ _ (rw (outside_is, moved_is) (sym k.rest_outside)) rest_count
 
+  -- the weight of what moves is that towards the splitter
   pub part_is :
       ◌≡◌ {A = SetWeight}
       (record {
@@ -164,6 +169,7 @@ module _
       same_weight _ _ _ _ (rw (outside_is, rest_count) (sym k.part_outside))
       (rw moved_is (sym k.splitter))
 
+  -- the value of what is inside and outside is the definition's
   pub three_is :
       (n : ℕ) →
       n ≡ bits_of weight.outside (nat_lt 0 (weight.inside - length moved)) (nat_lt 0 (length moved))
@@ -174,6 +180,7 @@ module _
       ap Members (e ∙ same_bits _ _ _ _ _ _ (outside_is ∙ sym k.zero_is)
       (rw rest_count (sym k.one_is)) (rw moved_is (sym k.two_is)))
 
+  -- the value of an untouched member is the definition's
   pub void_is :
       (n : ℕ) → n ≡ bits_of weight.outside (nat_lt 0 weight.inside) false →
       ◌≡◌ {A = Three} (Members n) (value_of_set (without_splitter ts))

@@ -5,14 +5,13 @@ use Rattle.std.specs.List.{list_all}
 use Rattle.std.proofs.lemmas.Bool.{eqb-true}
 use Rattle.std.proofs.lemmas.Cmp.{nat_eq_equiv}
 use Rattle.std.proofs.lemmas.List.{length-map, get_or-map}
-use Rattle.std.proofs.lemmas.Option.{get_or_from_slice_get, slice_get_within}
+use Rattle.std.proofs.lemmas.Option.{get_or_from_slice_get, slice_get_within, slice_get-get_or}
 use Rattle.functor_terms.specs.Terms.{Nodes}
 use Rattle.typing.specs.declared.value.Value.{Value}
 use Rattle.typing.specs.Values.{states_below}
 use Rattle.typing.specs.Stable.{IsStable, IsFirst, Refines, AreEquivalent}
 use Rattle.typing.proofs.FirstPlaces.{first_passes}
 use Rattle.typing.proofs.Coarser.{eq-coarser}
-use Rattle.typing.proofs.RelabelSteps.{got}
 use Rattle.typing.proofs.StableLaws.{each_of}
 use Rattle.quotient_writer.specs.Blocks.{AreFirsts, first_state, first_states}
 
@@ -51,7 +50,7 @@ module _ (t : Nodes) (values : List Value) (firsts : List ℕ) (stable : IsStabl
         labels i
     own i h =
         let k : ℕ = slice_index labels i in
-        let (w, at, passes) = first_passes (λ l. l == k) labels i k (got labels i h)
+        let (w, at, passes) = first_passes (λ l. l == k) labels i k (slice_get-get_or labels i 0 h)
         (nat_eq_equiv.refl k) in
         ap (slice_index labels) (sym (first_is i h))
         ∙ get_or_from_slice_get labels (first_state labels k) w 0 at ∙ eqb-true w k passes

@@ -1,13 +1,13 @@
 -- First states of numbered classes, found by a pass over the labels.
 use Rattle.std.proofs.Common.{◌≡◌, ℕ, suc, ◌+◌, ◌<◌, ◌≤◌, true, ◌&&◌, List, [], ◌∷◌, ◌++◌, drop, length, Some, slice_get, sym, ap, ◌∙◌, subst, arith, ⊎_elim, ◌⊎◌, inl, inr}
 use Rattle.std.specs.Prelude.{◌==◌, nat_lt, slice_index, if◌then◌else◌}
-use Rattle.std.proofs.lemmas.Bool.{and_parts, ltb-true, cases_lt}
+use Rattle.std.proofs.lemmas.Bool.{and_parts, ltb-true, cases_lt, ne_eqb}
 use Rattle.std.proofs.lemmas.Cmp.{nat_eq_equiv}
 use Rattle.std.proofs.lemmas.List.{get_or_append_left, get_or-append-add}
 use Rattle.std.proofs.lemmas.List.Sums.{position_or_len_is}
 use Rattle.quotient_writer.specs.Quotient.{numbers_from, is_numbered}
 use Rattle.quotient_writer.specs.Blocks.{first_state}
-use Rattle.quotient_writer.proofs.Picks.{drop_at, not_chosen, length-push}
+use Rattle.quotient_writer.proofs.Picks.{drop_at, length-push}
 
 -- a label that begins a class, and one that does not
 numbers_new : (n k : ℕ) (b : List ℕ) → k ≡ n → numbers_from n (k ∷ b) ≡ true
@@ -21,7 +21,7 @@ numbers_old : (n k : ℕ) (b : List ℕ) → (k ≡ n → ⊥) → numbers_from 
 numbers_old n k b e h =
     let p = and_parts (nat_lt k n) (numbers_from n b)
     (sym (ap (λ o. if o then numbers_from (suc n) b else (nat_lt k n && numbers_from n b))
-    (not_chosen k n e)) ∙ h) in
+    (ne_eqb k n e)) ∙ h) in
     (ltb-true k n p.0, p.1)
 
 -- a place before the next is before this one or is it
@@ -38,6 +38,7 @@ module _ (labels : List ℕ) where
     pub first : (k : ℕ) → k < length firsts → slice_index firsts k ≡ first_state labels k
     pub states : (k : ℕ) → k < length firsts → slice_index firsts k < i
 
+  -- before the first state nothing is passed
   pub passing_none : is_numbered labels ≡ true → IsPassing 0 []
   passing_none h = record {
     few = omega arith;
@@ -53,6 +54,7 @@ module _ (labels : List ℕ) where
       here : numbers_from (length firsts) (k ∷ drop (i + 1) labels) ≡ true
       here = ap (numbers_from (length firsts)) (sym (drop_at labels i k label_at)) ∙ is.rest
 
+      -- another state of a known class is passed
       pub passing_old : (k ≡ length firsts → ⊥) → IsPassing (i + 1) firsts
       passing_old h =
           let p = numbers_old (length firsts) k (drop (i + 1) labels) h here in
@@ -73,10 +75,11 @@ module _ (labels : List ℕ) where
       new_first : k ≡ length firsts → first_state labels k ≡ i
       new_first e =
           position_or_len_is (λ j. j == k) labels i 0 (omega arith)
-          (λ j below. not_chosen (slice_index labels j) k
+          (λ j below. ne_eqb (slice_index labels j) k
           (λ same. absurd (omega (arith, is.classes j below, same, e))))
           (λ below. ap (λ n. n == k) label_is ∙ nat_eq_equiv.refl k)
 
+      -- the first state of a class is passed
       pub passing_new : k ≡ length firsts → IsPassing (i + 1) (firsts ++ i ∷ [])
       passing_new e = record {
         few = omega (arith, is.few, length-push firsts i);

@@ -1,11 +1,11 @@
 -- One replacement of states after another.
-use Rattle.std.proofs.Common.{◌≡◌, ℕ, zero, suc, ◌+◌, ◌<◌, Bool, true, List, [], ◌∷◌, map, length, refl, sym, ap, ◌∙◌, subst, arith}
+use Rattle.std.proofs.Common.{◌≡◌, ℕ, zero, suc, ◌<◌, true, List, [], ◌∷◌, map, length, refl, sym, ap, ◌∙◌, subst, arith}
 use Rattle.std.specs.Prelude.{ℤ, nat_lt, slice_index}
 use Rattle.std.specs.List.{list_all}
 use Rattle.std.proofs.lemmas.Bool.{and_parts, and_from, ltb-true}
 use Rattle.std.proofs.lemmas.List.{get_or-map}
 use Rattle.functor_terms.specs.Terms.{Nodes}
-use Rattle.typing.specs.declared.value.Value.{Value, Value-F, out-Value, roll-Value, map-Value, ind-Value, out-roll-Value}
+use Rattle.typing.specs.declared.value.Value.{Value, Value-F, roll-Value, map-Value, ind-Value}
 use Rattle.typing.specs.Values.{relabelled, states_below}
 use Rattle.typing.specs.Equality.{are_equal}
 use Rattle.typing.proofs.MapLaws.{mapped, out_map, below_out, layer_below}
@@ -15,6 +15,7 @@ use Rattle.typing.proofs.OwnLabels.{count_from, count_at, at_level, mapped_roll,
 
 -- b and then s, and where the states go
 module _ (m : ℕ) (b s : List ℕ) (goes : list_all (λ i. nat_lt i m) b ≡ true) where
+  -- the composition of the two lists
   abbrev pub through : List ℕ
   through = map (slice_index s) b
 
@@ -85,6 +86,7 @@ module _ (m : ℕ) (b s : List ℕ) (goes : list_all (λ i. nat_lt i m) b ≡ tr
   moved_level (Value-F.Set ys) h = let w = moved_list ys h in (ap Value-F.Set w.0, w.1)
   moved_level (Value-F.Weights ys) h = let w = moved_entries ys h in (ap Value-F.Weights w.0, w.1)
 
+  -- a value is moved by two lists as by their composition
   pub moved : (v : Value) → IsMoved v
   moved = ind-Value IsMoved (λ x y is h.
       let w = subst (λ (z : Value-F Value). layer_below n z ≡ true

@@ -1,11 +1,10 @@
 -- Numbered classes and what is picked, in words of first states.
 use Rattle.std.proofs.Common.{◌≡◌, ℕ, zero, suc, ◌+◌, ◌<◌, ◌≤◌, Bool, true, false, ◌&&◌, List, [], ◌∷◌, length, slice_get, slice_index, refl, sym, ap, ◌∙◌, arith, true≢false, ◌⊎◌, inl, inr}
-use Rattle.std.specs.Prelude.{◌==◌, nat_lt, if◌then◌else◌, not, IsTrue}
-use Rattle.std.proofs.lemmas.Bool.{and_parts, and_from, eqb-true, lt-ltb, ltb-true}
+use Rattle.std.specs.Prelude.{◌==◌, nat_lt, if◌then◌else◌, not}
+use Rattle.std.proofs.lemmas.Bool.{and_parts, and_from, eqb-true, lt-ltb, ltb-true, ne_eqb}
 use Rattle.std.proofs.lemmas.Cmp.{nat_eq_equiv}
-use Rattle.quotient_writer.specs.Quotient.{numbers_from, is_numbered, picked_from, picked}
+use Rattle.quotient_writer.specs.Quotient.{numbers_from, picked_from}
 use Rattle.quotient_writer.specs.Blocks.{first_state}
-use Rattle.quotient_writer.proofs.Picks.{not_chosen}
 
 -- a list that begins with the label, and one that does not
 first-here : (k : ℕ) (b : List ℕ) → first_state (k ∷ b) k ≡ 0
@@ -14,7 +13,7 @@ first-here k b = ap (λ o. if not o then 1 + first_state b k else 0) (nat_eq_equ
 first-later : (j k : ℕ) (b : List ℕ) → (j ≡ k → ⊥)
     → first_state (j ∷ b) k ≡ suc (first_state b k)
 first-later j k b apart =
-    ap (λ o. if not o then 1 + first_state b k else 0) (not_chosen j k apart)
+    ap (λ o. if not o then 1 + first_state b k else 0) (ne_eqb j k apart)
     ∙ (let e : 1 + first_state b k ≡ suc (first_state b k) = omega arith in e)
 
 -- a label is that of a class that began before, or begins one
@@ -42,7 +41,7 @@ pick-old : {X : Type 0} (n k : ℕ) (b : List ℕ) (x : X) (xs : List X) → (k 
     → picked_from n (k ∷ b) (x ∷ xs) ≡ picked_from n b xs
 pick-old n k b x xs apart =
     ap (λ o. if o then x ∷ picked_from (suc n) b xs else picked_from n b xs)
-    (not_chosen k n apart)
+    (ne_eqb k n apart)
 
 -- what stands at the k-th place is that of the first state of class n + k
 pub pick-at : {X : Type 0} (n : ℕ) (b : List ℕ) (xs : List X) → length b ≡ length xs

@@ -1,13 +1,13 @@
 -- Numbers for classes that are given by their first states.
 use Rattle.std.proofs.Common.{◌≡◌, ℕ, suc, ◌+◌, ◌<◌, ◌≤◌, true, ◌&&◌, List, [], ◌∷◌, ◌++◌, length, append-nil, append_assoc, refl, sym, ap, ◌∙◌, arith, ◌⊎◌, inl, inr}
 use Rattle.std.specs.Prelude.{◌==◌, nat_lt, slice_index, if◌then◌else◌}
-use Rattle.std.proofs.lemmas.Bool.{and_from, lt-ltb}
+use Rattle.std.proofs.lemmas.Bool.{and_from, lt-ltb, ne_eqb}
 use Rattle.std.proofs.lemmas.Cmp.{nat_eq_equiv}
 use Rattle.std.proofs.lemmas.List.{length-map, get_or-map, get_or_append_left, get_or-append-add}
 use Rattle.std.proofs.lemmas.List.Sums.{position_or_len_is}
 use Rattle.quotient_writer.specs.Quotient.{numbers_from, is_numbered}
 use Rattle.quotient_writer.specs.Blocks.{AreFirsts, first_state, first_states}
-use Rattle.quotient_writer.proofs.Picks.{not_chosen, length-push}
+use Rattle.quotient_writer.proofs.Picks.{length-push}
 use Rattle.quotient_writer.proofs.Classes.{last_case}
 
 same_lists : (xs ys : List ℕ) → length xs ≡ length ys
@@ -29,7 +29,7 @@ number_old : (n k : ℕ) (more : List ℕ) → k < n → numbers_from n more ≡
     → numbers_from n (k ∷ more) ≡ true
 number_old n k more low h =
     ap (λ o. if o then numbers_from (suc n) more else (nat_lt k n && numbers_from n more))
-    (not_chosen k n (λ e. absurd (omega (arith, low, e))))
+    (ne_eqb k n (λ e. absurd (omega (arith, low, e))))
     ∙ and_from (nat_lt k n) (numbers_from n more) (lt-ltb k n low) h
 
 module _ (firsts : List ℕ) where
@@ -44,6 +44,7 @@ module _ (firsts : List ℕ) where
     pub apart : (j k : ℕ) → j < i → k < i → slice_index firsts j ≡ j → slice_index firsts k ≡ k
         → slice_index labels j ≡ slice_index labels k → j ≡ k
 
+  -- before the first state nothing is numbered
   pub numbering_none : IsNumbering 0 [] 0
   numbering_none = record {
     count = refl;
@@ -70,6 +71,7 @@ module _ (firsts : List ℕ) (are : AreFirsts firsts) where
         let w = (are j (omega (arith, h, inside))).0 in
         kept_at k (slice_index firsts j) (omega (arith, h, w)) ∙ is.each j h ∙ sym (kept_at k j h)
 
+    -- a first state gets the next number
     pub numbering_new : slice_index firsts i ≡ i
         → IsNumbering firsts (i + 1) (labels ++ classes ∷ []) (classes + 1)
     numbering_new own = record {
@@ -123,6 +125,7 @@ module _ (firsts : List ℕ) (are : AreFirsts firsts) where
             ))
         differ j k (inr sj) (inr sk) oj ok e = sj ∙ sym sk
 
+    -- another state gets the number of its first
     pub numbering_old : (slice_index firsts i ≡ i → ⊥)
         → IsNumbering firsts (i + 1) (labels ++ slice_index labels (slice_index firsts i) ∷ [])
         classes
@@ -187,6 +190,7 @@ module _ (firsts : List ℕ) (are : AreFirsts firsts) where
   -- at the end
   module _ (labels : List ℕ) (classes : ℕ) (is : IsNumbering firsts (length firsts) labels classes)
     where
+      -- the labels are numbered by first states
       pub all_numbered : is_numbered labels ≡ true
       all_numbered = sym (ap (numbers_from 0) (append-nil labels)) ∙ is.numbered [] refl
 
@@ -197,7 +201,7 @@ module _ (firsts : List ℕ) (are : AreFirsts firsts) where
           let w = are j h in
           position_or_len_is (λ l. l == slice_index labels j) labels f 0
           (omega (arith, w.0, h, is.count))
-          (λ k low. not_chosen (slice_index labels k) (slice_index labels j) (λ e.
+          (λ k low. ne_eqb (slice_index labels k) (slice_index labels j) (λ e.
           let inside_k : k < length firsts = omega (arith, low, w.0, h) in
           let v = are k inside_k in
           let g : ℕ = slice_index firsts k in
@@ -207,6 +211,7 @@ module _ (firsts : List ℕ) (are : AreFirsts firsts) where
           (λ low. ap (λ n. n == slice_index labels j) (is.each j h)
           ∙ nat_eq_equiv.refl (slice_index labels j))
 
+      -- the first states are the given ones
       pub all_same : first_states labels ≡ firsts
       all_same =
           let long : length (first_states labels) ≡ length labels = rw length-map refl in

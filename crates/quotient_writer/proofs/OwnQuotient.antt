@@ -96,6 +96,7 @@ module _ (t : Nodes) (names : List (List ℕ)) (values : List Value) (b : List �
         ∙ (eq-equivalence t 0).refl u;
   }
 
+  -- a coalgebra of which no two states are equivalent is its own quotient
   pub own_quotient : (ns : List (List ℕ)) (vs : List Value) → IsQuotient t names values b ns vs
       → (ns ≡ names) × (vs ≡ values)
   own_quotient ns vs q = determined t names values b l.covers l.one_each l.numbered ns names vs

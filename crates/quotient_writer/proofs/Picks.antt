@@ -2,10 +2,11 @@
 use Rattle.std.proofs.Common.{◌≡◌, ℕ, zero, suc, ◌+◌, ◌<◌, ◌≤◌, Bool, true, false, ◌&&◌, ◌||◌, List, [], ◌∷◌, ◌++◌, drop, length, Option, Some, None, slice_get, refl, sym, ap, ◌∙◌, subst, true≢false, arith, append_assoc, append-nil, drop_of_length-le}
 use Rattle.std.specs.Prelude.{◌==◌, nat_lt, if◌then◌else◌, is_some}
 use Rattle.std.specs.List.{list_all, list_any, AllZip, AllByRecursion, IsDistinct}
-use Rattle.std.proofs.lemmas.Bool.{and_parts, and_from, eqb-true, lt-ltb, ltb-true}
+use Rattle.std.proofs.lemmas.Bool.{and_parts, and_from, eqb-true, lt-ltb, ltb-true, eq-eqb, ne_eqb}
 use Rattle.std.proofs.lemmas.Cmp.{nat_eq_equiv}
 use Rattle.std.specs.Cmp.Lexicographic.{lists_equiv}
 use Rattle.std.proofs.lemmas.Option.{none-some, same_Some}
+use Rattle.std.proofs.lemmas.Slice.Zip.{AllZip-long}
 use Rattle.functor_terms.specs.Words.{is_same_word, place_of}
 use Rattle.functor_terms.proofs.WordLemmas.{place-any}
 use Rattle.functor_terms.specs.Terms.{Nodes}
@@ -13,7 +14,7 @@ use Rattle.typing.specs.Values.{states_below}
 use Rattle.typing.specs.Fits.{fits}
 use Rattle.typing.specs.Order.{is_normal}
 use Rattle.typing.specs.NormalForms.{IsRelabelledAt}
-use Rattle.typing.proofs.RelabelLaws.{right_all, same_length}
+use Rattle.typing.proofs.RelabelLaws.{right_all}
 use Rattle.quotient_writer.specs.Quotient.{numbers_from, picked_from, picked}
 use Rattle.typing.specs.declared.value.Value.{Value}
 
@@ -78,24 +79,16 @@ numbers_below n (k ∷ b) (x ∷ xs) l h = by (k == n) refl h (λ g. numbers_bel
         (list_all (λ j. nat_lt j (n + length (picked_from n b xs))) b)
         (lt-ltb k (n + length (picked_from n b xs)) top) (old p.1)
 
+-- one element more is one more
 pub length-push : {X : Type 0} (xs : List X) (x : X) → length (xs ++ x ∷ []) ≡ suc (length xs)
 length-push [] x = refl
 length-push (y ∷ ys) x = ap suc (length-push ys x)
 
-chosen : (k n : ℕ) → k ≡ n → (k == n) ≡ true
-chosen k n e = ap (λ m. k == m) (sym e) ∙ nat_eq_equiv.refl k
-
-pub not_chosen : (k n : ℕ) → (k ≡ n → ⊥) → (k == n) ≡ false
-not_chosen k n h = by (k == n) refl
-  where
-    by : (o : Bool) → (k == n) ≡ o → o ≡ false
-    by true e = absurd (h (eqb-true k n e))
-    by false e = refl
-
+-- the first of a class is picked
 pub picked-new : {X : Type 0} (n k : ℕ) (b : List ℕ) (x : X) (xs : List X) → k ≡ n
     → picked_from n (k ∷ b) (x ∷ xs) ≡ x ∷ picked_from (suc n) b xs
 picked-new n k b x xs e = ap (λ o. if o then x ∷ picked_from (suc n) b xs else picked_from n b xs)
-    (chosen k n e)
+    (eq-eqb k n e)
 
 -- the step of a loop that picks
 pub pick_more : {X : Type 0} (new : List X) (n k : ℕ) (b : List ℕ) (x : X) (xs : List X)
@@ -109,7 +102,7 @@ pick_more new n k b x xs l e =
 pub pick_none : {X : Type 0} (new : List X) (n k : ℕ) (b : List ℕ) (x : X) (xs : List X)
     → (k ≡ n → ⊥) → picked_from n (k ∷ b) (x ∷ xs) ≡ picked_from n b xs
 pick_none new n k b x xs h = ap (λ o. if o then x ∷ picked_from (suc n) b xs else picked_from n b
-    xs) (not_chosen k n h)
+    xs) (ne_eqb k n h)
 
 -- distinct words
 pub apart_without : (xs : List (List ℕ)) (y : List ℕ) (ys : List (List ℕ))
@@ -146,6 +139,7 @@ not_there xs y ys h = by (place_of y xs) (place-any (is_same_word y) xs ∙ any_
 -- where a loop that picks stands, before place i
 module _ (R : Value → Value → Type 0) (b : List ℕ) (names : List (List ℕ)) (values : List Value)
   where
+    -- what is picked from the first i states
     pub record IsPicking (i : ℕ) (new_names : List (List ℕ)) (new_values : List Value) : Type 0 where
       pub few : length new_names ≤ i
       pub apart : AreDistinct (new_names ++ drop i names)
@@ -155,12 +149,14 @@ module _ (R : Value → Value → Type 0) (b : List ℕ) (names : List (List ℕ
           → AllZip R (picked_from (length new_names) (drop i b) (drop i values)) more
           → AllZip R (picked b values) (new_values ++ more)
 
+    -- before the first state nothing is picked
     pub picking_none : AreDistinct names → IsPicking 0 [] []
     picking_none h = record { few = omega arith; apart = h; named = refl; made = λ more z. z }
 
     module _ (i k : ℕ) (x : List ℕ) (v : Value) (label_at : slice_get b i ≡ Some k)
         (name_at : slice_get names i ≡ Some x) (value_at : slice_get values i ≡ Some v)
         (ns : List (List ℕ)) (vs : List Value) (is : IsPicking i ns vs) where
+      -- another of a known class is not picked
       pub picking_old : (k ≡ length ns → ⊥) → IsPicking (i + 1) ns vs
       picking_old h =
           record {
@@ -178,10 +174,12 @@ module _ (R : Value → Value → Type 0) (b : List ℕ) (names : List (List ℕ
                 ∙ pick_none vs (length ns) k (drop (i + 1) b) v (drop (i + 1) values) h)) z);
           }
 
+      -- the name that is picked next is new
       pub name_is_new : place_of x ns ≡ None
       name_is_new = not_there ns x (drop (i + 1) names)
           (subst (λ (l : List (List ℕ)). AreDistinct (ns ++ l)) (drop_at names i x name_at) is.apart)
 
+      -- the first of a class is picked next
       pub picking_new : (r : Value) → k ≡ length ns → R v r
           → IsPicking (i + 1) (ns ++ x ∷ []) (vs ++ r ∷ [])
       picking_new r h c =
@@ -205,6 +203,7 @@ module _ (R : Value → Value → Type 0) (b : List ℕ) (names : List (List ℕ
                 )));
           }
 
+    -- at the end all of the classes are picked
     pub picked_all : (i : ℕ) (ns : List (List ℕ)) (vs : List Value) → length b ≤ i → IsPicking i ns vs
         → (ns ≡ picked b names) × AllZip R (picked b values) vs
     picked_all i ns vs past is =
@@ -244,14 +243,17 @@ module _ (t : Nodes) (b : List ℕ) (names : List (List ℕ)) (values : List Val
     ≡ length names) (one_each : length values ≡ length names) (numbered : numbers_from 0 b ≡ true)
     (ns : List (List ℕ)) (vs : List Value) (done : (ns ≡ picked b names)
     × AllZip (IsRelabelledAt t b 0) (picked b values) vs) where
+  -- a value for each name
   pub end-one_each : length vs ≡ length ns
-  end-one_each = same_length (IsRelabelledAt t b 0) (picked b values) vs done.1
+  end-one_each = AllZip-long (IsRelabelledAt t b 0) (picked b values) vs done.1
       ∙ picked-length 0 b values names one_each ∙ sym (ap length done.0)
 
+  -- what is picked fits
   pub end-fitting : list_all (fits t 0) vs ≡ true
   end-fitting = right_all (IsRelabelledAt t b 0) (fits t 0) (picked b values) vs done.1
       (λ v r k. k.fitting)
 
+  -- what is picked is in normal form
   pub end-normal : list_all (is_normal t 0) vs ≡ true
   end-normal = right_all (IsRelabelledAt t b 0) (is_normal t 0) (picked b values) vs done.1
       (λ v r k. k.normal)
@@ -261,6 +263,7 @@ module _ (t : Nodes) (b : List ℕ) (names : List (List ℕ)) (values : List Val
       (let e : 0 + length (picked b names) ≡ length ns = omega (arith, ap length done.0) in
       e) (numbers_below 0 b names covers numbered)
 
+  -- the states in what is picked are below their number
   pub end-in_range : list_all (states_below (length ns)) vs ≡ true
   end-in_range = right_all (IsRelabelledAt t b 0) (states_below (length ns)) (picked b values) vs
       done.1 (λ v r k. k.in_range (length ns) numbers-below)

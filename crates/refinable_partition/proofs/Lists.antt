@@ -13,6 +13,7 @@ at_set xs i k v d h = elim (cases_eq k i) [
   | inr other ↦ rw (ne_eqb k i other) (get_or-set_other xs i k v d other)
 ]
 
+-- a mark for each state
 pub length-marks_in : (block place first marks : List ℕ) → length place ≡ length block →
     length (marks_in block place first marks) ≡ length block
 length-marks_in [] place first marks e = refl

@@ -37,6 +37,7 @@ module _ {order place block first sizes marks : List ℕ} {count : ℕ}
   b_count : b < count
   b_count = rw b_is (laid.in_block x x_in).0
 
+  -- the block's number is below that of the states
   pub b_in : b < length order
   b_in = omega (arith, b_count, laid.counted)
 
@@ -74,9 +75,11 @@ module _ {order place block first sizes marks : List ℕ} {count : ℕ}
     y_is : y ≡ get_or order (f + m) 0
     y_is = get_or_read order (f + m) y j_in y_read 0
 
+    -- the place of the member is one of the list
     pub y_in : y < length order
     y_in = rw y_is (laid.in_order (f + m) j_in).0
 
+    -- there is room for one more mark
     pub room : f + m + 1 < 2 ^ 26
     room = omega (arith, j_in, laid.few)
 
@@ -128,6 +131,7 @@ module _ {order place block first sizes marks : List ℕ} {count : ℕ}
           let p = order_at (get_or place_new z 0) in
           grind (arith, nat_tests, o, p, here, i_is, order_i, place_y, y_is, i_in, j_in)
 
+      -- what is laid out stays so when a member is marked
       pub mark_laid : IsLaidOut order_new place_new block first sizes marks_new count
       mark_laid = record {
         few = omega (arith, order_len, laid.few);
@@ -208,9 +212,11 @@ module _ {order place block first sizes marks : List ℕ} {count : ℕ}
             place_y,
           )
 
+      -- the member is marked
       pub marked_here : get_or new_marks x false ≡ true
       marked_here = mark_of x hx ∙ rw (eq-eqb x x refl) refl
 
+      -- the marks of the others stay
       pub marked_others : (z : ℕ) → z ≢ x → get_or new_marks z false ≡ get_or old_marks z false
       marked_others z ne = elim (cases_lt z (length block)) [
         | inl h ↦ mark_of z h ∙ rw (ne_eqb z x ne) refl

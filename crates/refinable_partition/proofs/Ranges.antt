@@ -14,26 +14,31 @@ module _ {order place block first sizes marks : List ℕ} {count : ℕ}
   ends : f + n ≤ length order
   ends = omega (arith, f_is, fits, laid.ends b hb)
 
+  -- the front is as long as it is said
   pub length-front : length front ≡ n
   length-front = simp (length-take, length-drop) (omega (arith, ends))
 
+  -- an entry of the front is one of the list
   pub front_at : (k d : ℕ) → k < n → get_or front k d ≡ get_or order (f + k) 0
   front_at k d h =
       get_or-take n (drop f order) k d h ∙ get_or-drop f order k d
       ∙ get_or_default order (f + k) d 0 (omega (arith, ends))
 
+  -- the front is of states
   pub front_in : All (λ x. x < length block) front
   front_in k d h =
       let hk : k < n = omega (arith, length-front) in
       let here = (laid.in_order (f + k) (omega (arith, ends))).0 in
       rw (front_at k d hk) (omega (arith, here, laid.block_len))
 
+  -- the front is of one block
   pub front_of_block : All (λ x. get_or block x 0 ≡ b) front
   front_of_block k d h =
       let hk : k < n = omega (arith, length-front) in
       rw (front_at k d hk) (laid.contiguous b (f + k) hb (omega (arith, f_is))
       (omega (arith, f_is, fits)))
 
+  -- no state stands twice in the front
   pub front_once : AllPairs (λ x y. x ≢ y) front
   front_once i j d hij hj same =
       let hj2 : j < n = omega (arith, length-front) in

@@ -135,6 +135,7 @@ module _ {order place block first sizes marks : List ℕ} {count : ℕ}
         let here = laid.in_block x hx2 in
         grind (arith, nat_tests, new, old, front, here)
 
+    -- where the marked end is a small number
     pub end_in : f + m < 2 ^ 26
     end_in = omega (arith, ends, m_s, laid.few)
 
@@ -152,9 +153,11 @@ module _ {order place block first sizes marks : List ℕ} {count : ℕ}
       fits : f + m - f ≤ get_or sizes b 0
       fits = omega (arith, s_is, m_s)
 
+      -- those that move are states
       pub moving_in : All (λ x. x < length block) moving
       moving_in = rw lent_is (front_in laid hb f_is fits)
 
+      -- no state moves twice
       pub moving_once : AllPairs (λ x y. x ≢ y) moving
       moving_once = rw lent_is (front_once laid hb f_is fits)
 
@@ -314,6 +317,7 @@ module _ {order place block first sizes marks : List ℕ} {count : ℕ}
           ]
         ]
 
+        -- what is laid out stays so when a block splits
         pub split_laid : IsLaidOut order place block_new first_new sizes_new marks_new (count + 1)
         split_laid = record {
           few = laid.few;
@@ -353,6 +357,7 @@ module _ {order place block first sizes marks : List ℕ} {count : ℕ}
               grind (arith, nat_tests, sa, ma, new, hb));
         }
 
+        -- the marked members of the block get the new number
         pub split_blocks : (x : ℕ) → x < length block →
             get_or block_new x 0 ≡ cond ((get_or block x 0 == b) && old_mark x) count
             (get_or block x 0)
@@ -365,6 +370,7 @@ module _ {order place block first sizes marks : List ℕ} {count : ℕ}
               | inr other ↦ rw (ne_eqb _ _ other) (grind (arith, to, other))
             ]
 
+        -- the block has no marks behind the split
         pub split_cleared : (x : ℕ) → x < length block →
             get_or (marks_in block_new place first_new marks_new) x false
             ≡ cond (get_or block x 0 == b) false (old_mark x)

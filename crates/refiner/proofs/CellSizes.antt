@@ -166,6 +166,7 @@ chosen_many x (s ∷ sources) (l ∷ labels) e =
       | inr other ↦ (let t = ne_eqb s x other in rw t rest) ∙ sym (size_no s x sources other)
     ]
 
+-- the labels from a state are as many as its edges
 pub edges_many : {Label : Type 0} (edges : List (Edge Label)) (x : ℕ) →
     length (labels_from edges x) ≡ size_in (sources_of edges) x
 edges_many edges x =

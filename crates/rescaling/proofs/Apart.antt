@@ -138,6 +138,7 @@ module _ (k : ℕ) (some : 1 ≤ k) where
         (sym (level_out k m rs (out-Value u)) ∙ ap out-Value e ∙ level_out k m rs (out-Value v)));
   }
 
+  -- rescaling tells values apart
   pub rescaled-tells :
       (t : Nodes) (p : ℕ) (u v : Value) → rescaled k t p u ≡ rescaled k t p v → u ≡ v
   rescaled-tells t p =

@@ -42,18 +42,23 @@ formed k t p = fold no_rescale (formed_step k) t p
 
 -- ---- the parts of what is made
 
+-- the parts of a tuple
 pub tuple_parts : (vs : List Value) → parts (value.Tuple vs) ≡ vs
 tuple_parts vs = ap parts_in (outs-Tuple vs)
 
+-- the members of a set
 pub set_parts : (vs : List Value) → parts (value.Set vs) ≡ vs
 set_parts vs = ap parts_in (outs-Set vs)
 
+-- the index of an injection
 pub inj_index : (j : ℕ) (v : Value) → index (value.Inj j v) ≡ j
 inj_index j v = ap index_in (outs-Inj j v)
 
+-- the value in an injection
 pub inj_inner : (j : ℕ) (v : Value) → inner (value.Inj j v) ≡ v
 inj_inner j v = ap (inner_in (value.Inj j v)) (outs-Inj j v)
 
+-- the entries of weights
 pub weights_entries : (es : List (Value × ℤ)) → entries (value.Weights es) ≡ es
 weights_entries es = ap entries_in (outs-Weights es)
 

@@ -137,6 +137,7 @@ step_form k m fs rs z = record {
       ap (fits_level m fs) (level_out k m rs (out-Value v)) ∙ level_form k fs rs z m (out-Value v);
 }
 
+-- a rescaled value fits where the value does
 pub rescaled-fits :
     (k : ℕ) (t : Nodes) (p : ℕ) (v : Value) → fits t p (rescaled k t p v) ≡ fits t p v
 rescaled-fits k t p =

@@ -24,6 +24,7 @@ remade k m rs (Value-F.Inj j v) = Value-F.Inj j (rescale_at rs j v)
 remade k m rs (Value-F.Set vs) = Value-F.Set (map (rescale_at rs 0) vs)
 remade k m rs (Value-F.Weights es) = Value-F.Weights (rescaled_entries k m (rescale_at rs 0) es)
 
+-- a rescaled layer seen from outside
 pub level_out :
     (k : ℕ) (m : Node) (rs : List Rescale) (x : Value-F Value) →
     out-Value (rescaled_level k m rs x) ≡ remade k m rs x
@@ -38,6 +39,7 @@ level_out k m rs (Value-F.Weights es) = outs-Weights (rescaled_entries k m (resc
 abbrev pub by_child : List Rescale → List Value → List Value
 by_child rs vs = map (rescale_at rs 0) vs
 
+-- what holds of both ways to rescale parts holds of that of the node
 pub either_parts :
     (P : (List Rescale → List Value → List Value) → Type 0) →
     P rescaled_places → P by_child → (m : Node) → P (rescaled_parts m)
@@ -143,6 +145,7 @@ module _ (n : ℕ) where
         ∙ sym (below_out n v);
   }
 
+  -- rescaling keeps the states
   pub rescaled-states :
       (k : ℕ) (t : Nodes) (p : ℕ) (v : Value) → states_below n (rescaled k t p v) ≡ states_below n v
   rescaled-states k t p =
@@ -213,6 +216,7 @@ module _ (b : List ℕ) where
         ∙ sym (level_out k m rs (out-Value (relabelled b v))));
   }
 
+  -- rescaling and relabelling may change places
   pub rescaled-commutes :
       (k : ℕ) (t : Nodes) (p : ℕ) (v : Value) →
       relabelled b (rescaled k t p v) ≡ rescaled k t p (relabelled b v)

@@ -116,6 +116,7 @@ factors_positive (suc a) zero d e some =
     let none : d ≡ 0 = e ∙ mul-zero (suc a) in absurd (omega (arith, none, some))
 factors_positive (suc a) (suc b) d e some = (omega arith, omega arith)
 
+-- equal fractions have the same stable lists
 pub same-stability : SameFractionsSameStability
 same-stability d e same some all b =
     let factors =
@@ -128,6 +129,7 @@ same-stability d e same some all b =
       stable_after same.factor factors.0 d.term e.values fit b,
     ))
 
+-- equal fractions have the same equivalence
 pub same-equivalence : SameFractionsSameEquivalence
 same-equivalence d e same some all i j =
     let factors =
@@ -142,6 +144,7 @@ same-equivalence d e same some all i j =
       equivalent_after same.factor factors.0 d.term e.values fit i j,
     ))
 
+-- rescaled weights stay within their bound
 pub weights-stay : RescaledWeightsStay
 weights-stay d e same some m fractions w =
     let factors =
@@ -154,6 +157,7 @@ weights-stay d e same some m fractions w =
 
 -- ---- normal forms
 
+-- normal forms are rescaled to normal forms
 pub normal-forms : NormalFormsRescale
 normal-forms k t p v r s some fit before after =
     let is = eq-equivalence t p in

@@ -68,6 +68,7 @@ module _
       node_by (shape_of s.iface.shapes.items)
       (label_of s.iface.shapes.items s.iface.weights.items) any_node
 
+  -- the value of a packed state
   abbrev pub value : ℕ → List ℕ → List ℕ → Three
   value =
       value_by (shape_of s.iface.shapes.items)
@@ -83,6 +84,7 @@ module _
   abbrev pub Stands : ℕ → Place → Type 0
   Stands x y = StandsFor desorted.occurrences x y.0 y.1
 
+  -- a packed state read as one of any layer
   abbrev pub read : Sorted ℕ ℕ → Sorted AnyShape AnyLabel
   read =
       decoded_state (shape_of s.iface.shapes.items)

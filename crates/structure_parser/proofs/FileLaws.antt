@@ -101,6 +101,7 @@ fault_of (Outcome.past_bound line) = Fault.PastBound line
 fault_of (Outcome.short_sum line) = Fault.ShortSum line
 fault_of (Outcome.accepted l fs) = Fault.Grammar 0
 
+-- a text has one fault
 pub one-fault : OneTerm → OneFault
 unfolding fault_of
 one-fault one bytes (Fault.Grammar m) (Fault.Grammar n) (le, a) (le', b) =
@@ -152,6 +153,7 @@ not-bound n l fs e = cc
 not-short : (n l : ℕ) (fs : List Fitted) → Outcome.short_sum n ≡ Outcome.accepted l fs → ⊥
 not-short n l fs e = cc
 
+-- a faulty text denotes no coalgebra
 pub faults-refuse : OneTerm → FaultsRefuse
 faults-refuse one bytes (Fault.Grammar n) c (le, a) read =
     no-grammar one bytes n c.term read.rows a read.spelled
@@ -191,6 +193,7 @@ same-fitted : (l m : ℕ) (fs gs : List Fitted) → Outcome.accepted l fs ≡ Ou
     fs ≡ gs
 same-fitted l m fs gs e = cc
 
+-- a text denotes one coalgebra
 pub one-reading : OneTerm → EqualityIsAnEquivalence → NormalValuesAreUnique → OneReading
 one-reading one_term equal one bytes c d a b =
     let term : d.term ≡ c.term =

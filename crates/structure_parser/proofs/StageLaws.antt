@@ -236,6 +236,7 @@ short-summed t l (r ∷ rows) [] = refl
 short-summed t l (r ∷ rows) (f ∷ fs) =
     ap (λ o. if has_sums l t 0 f then o else Some r.line) (short-summed t l rows fs)
 
+-- a tree is kept for each row
 pub kept-length : (rows : List Row) (fs : List Fitted) → length fs ≡ length rows →
     length (kept_of rows fs) ≡ length rows
 kept-length [] fs e = refl

@@ -104,12 +104,14 @@ is_plain b = not (b == line_feed) && not (b == carriage_return)
 word_plain : (b : ℕ) → is_word_byte b ≡ true → is_plain b ≡ true
 word_plain b word = grind (arith, nat_tests)
 
+-- a word is plain
 pub word-plain : (w : List ℕ) → list_all is_word_byte w ≡ true → list_all is_plain w ≡ true
 word-plain [] h = refl
 word-plain (b ∷ w) h =
     let p = and_parts (is_word_byte b) (list_all is_word_byte w) h in
     and_from (is_plain b) (list_all is_plain w) (word_plain b p.0) (word-plain w p.1)
 
+-- two plain texts are plain together
 pub both-plain : (xs ys : List ℕ) → list_all is_plain xs ≡ true
     → list_all is_plain ys ≡ true → list_all is_plain (xs ++ ys) ≡ true
 both-plain xs ys hx hy =
@@ -143,6 +145,7 @@ module _ (a b : List ℕ) (s u : List Mark) (first : Lexes a s) (second : Lexes 
       ∙ ap (λ l. s ++ Comma ∷ l) (moved 2 (b ++ rest) ∙ second rest none)
       ∙ sym (append_assoc s (Comma ∷ u) (marks rest))
 
+  -- a label and a value are tokens with a colon between them
   pub colon-lexes : Lexes (paired a b) (s ++ Colon ∷ u)
   colon-lexes rest none =
       ap marks (append_assoc a (codes ": " ++ b) rest) ∙ first (codes ": " ++ (b ++ rest)) refl
@@ -204,6 +207,7 @@ paired-piece Inside a b u w first second = record {
   plain = both-plain a (codes ": " ++ b) first.plain second.plain;
 }
 
+-- an element without a weight is an entry
 pub alone-piece : (Inside : List Mark → Tree → Type 0) (a : List ℕ) (u : Tree)
     → IsPieceOf Inside a u → IsPieceOf (SpellsEntry Inside) a (entry u None)
 alone-piece Inside a u is = record {

@@ -47,6 +47,7 @@ pub record IsDecimal (n : ℕ) : Type 0 where
   pub value : digits_value 10 (decimal n) ≡ n
   pub number : number_of (decimal n) ≡ n
 
+-- a number's decimal text is digits alone
 pub decimal-is : (n : ℕ) → n < 10 ^ 64 → IsDecimal n
 decimal-is n small =
     let is = decimal_is_IsNumeral_wide n small in
@@ -76,6 +77,7 @@ decimal-below m n small below =
 digit_byte : (b : ℕ) → is_ascii_digit b ≡ true → is_word_byte b ≡ true
 digit_byte b h = grind (arith, nat_tests)
 
+-- digits are word bytes
 pub digit-bytes : (ds : List ℕ) → list_all is_ascii_digit ds ≡ true
     → list_all is_word_byte ds ≡ true
 digit-bytes [] h = refl
@@ -267,6 +269,7 @@ module _ (l : ℕ) (some : 1 ≤ l) (small : l ≤ 2 ^ 40) (m : Node) (w : ℤ)
             ap (λ b. if b then r.p *ℤ pos (l / r.q) else r.p) h ∙ ap (λ (s : Ratio). s.p) is;
       }
 
+  -- a weight's text is a numeral of it
   pub weight-is : IsWeightText l m w
   weight-is = by (has_fractions m) refl
     where

@@ -40,6 +40,7 @@ use Rattle.structure_writer.proofs.Free.{fitting-free}
 
 -- ---- one reading of rows
 
+-- equal lists begin alike
 pub heads_same : (x y : Numbered) (xs ys : List Numbered)
     → ◌≡◌ {A = List Numbered} (x ∷ xs) (y ∷ ys) → (x ≡ y) × (xs ≡ ys)
 heads_same x y xs ys e = (cc, cc)
@@ -90,6 +91,7 @@ new_word (x ∷ before) w rest d =
     in_all [] h = h.0
     in_all (y ∷ ys) h = in_all ys h.1
 
+-- a name that comes later has no place before it
 pub no_place : (before : List (List ℕ)) (w : List ℕ) (rest : List (List ℕ))
     → IsDistinct is_same_word (before ++ w ∷ rest) → is_some (place_of w before) ≡ false
 no_place before w rest d = place-any (is_same_word w) before ∙ new_word before w rest d
@@ -204,6 +206,7 @@ all_trans j m (q ∷ qs) h all = (dvd_trans q all.0 h, all_trans j m qs h all.1)
 abbrev joined : ℕ → Fitted → ℕ
 joined l f = common_multiple l (denominators f)
 
+-- what is read of a canonical text is within the bounds
 pub bounded_all : (t : Nodes) (names : List (List ℕ)) (l m : ℕ) (rows : List Row) (fs : List Fitted)
     → 1 ≤ l → AllZip (RowFits t names) rows fs → bounded l rows fs ≡ Ok m → AreWithin l m fs
 bounded_all t names l m [] [] some fit e =
@@ -340,6 +343,7 @@ module _ (text : List ℕ) (d e : Content) (sp : Spells text d) (rd : Reads text
       (subst (λ (fs : List Fitted). AllByRecursion (DividesAll d.denominator) fs) (sym fitted_is)
       sp.multiple)
 
+  -- what is read back has the same fractions
   pub same-fractions : SameFractions d e
   same-fractions =
       let k : ℕ = d.denominator / e.denominator in

@@ -57,6 +57,7 @@ untrimmed (b ∷ c ∷ line) h =
     let p = and_parts (is_plain b) (list_all is_plain (c ∷ line)) h in
     ap (λ l. b ∷ l) (untrimmed (c ∷ line) p.1)
 
+-- the first line of a text is numbered and the others follow
 pub first_line : (n : ℕ) (line rest : List ℕ) → list_all is_plain line ≡ true
     → is_skipped line ≡ false
     → lines_from n (line ++ line_feed ∷ rest)
@@ -72,6 +73,7 @@ first_line n line rest h skipped =
 pub note_ends : (b : ℕ) → is_word_byte b ≡ true → (b == number_sign) ≡ false
 note_ends b word = grind (arith, nat_tests)
 
+-- a name is no blank and begins no note
 pub name_unskipped : (name more : List ℕ) → IsName name → is_skipped (name ++ more) ≡ false
 name_unskipped [] more is = absurd (omega (arith, is.0.0))
 name_unskipped (b ∷ name) more is =
@@ -86,6 +88,7 @@ rows_from n [] us = []
 rows_from n (name ∷ names) [] = []
 rows_from n (name ∷ names) (u ∷ us) = row n name u ∷ rows_from (n + 1) names us
 
+-- the heads of rows are the names
 pub heads_are : (n : ℕ) (names : List (List ℕ)) (us : List Tree) → length us ≡ length names
     → heads_of (rows_from n names us) ≡ names
 heads_are n [] us l = refl
@@ -210,6 +213,7 @@ module _ (c : Content) (well : IsWellFormed c) where
   each_back [] all = tt
   each_back (v ∷ vs) all = (all.0.back, each_back vs all.1)
 
+  -- the canonical text is exact
   pub text-exact : IsExact (canonical c) c
   text-exact =
       let all = each_written c.values well.fitting well.weighted well.in_range well.in_bounds in
@@ -245,5 +249,6 @@ module _ (c : Content) (well : IsWellFormed c) where
         back = each_back c.values all;
       }
 
+  -- the canonical text spells the coalgebra
   pub text-spells : Spells (canonical c) c
   text-spells = text-exact.spells

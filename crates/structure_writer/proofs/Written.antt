@@ -45,6 +45,7 @@ use Rattle.fitting.proofs.JoinLaws.{denominators_out}
 pub alone_held : (u : Tree) → held (entry u None) ≡ u
 alone_held u = ap (λ e. e.first) (out-roll-Entry (record { first = u; second = None }))
 
+-- an element without a weight has no tree of one
 pub alone_weight : (u : Tree) → weight_tree (entry u None) ≡ None
 alone_weight u = ap (λ e. e.second) (out-roll-Entry (record { first = u; second = None }))
 
@@ -52,6 +53,7 @@ alone_weight u = ap (λ e. e.second) (out-roll-Entry (record { first = u; second
 pub paired_held : (u w : Tree) → held (entry u (Some w)) ≡ u
 paired_held u w = ap (λ e. e.first) (out-roll-Entry (record { first = u; second = Some w }))
 
+-- an element's weight is its tree
 pub paired_weight : (u w : Tree) → weight_tree (entry u (Some w)) ≡ Some w
 paired_weight u w = ap (λ e. e.second) (out-roll-Entry (record { first = u; second = Some w }))
 
@@ -70,6 +72,7 @@ module _ (l : ℕ) where
   both_divide [] qs a b = b
   both_divide (p ∷ ps) qs a b = (a.0, both_divide ps qs a.1 b)
 
+  -- what divides for each of a list divides for all
   pub all_divide : (fs : List Fitted) → AllByRecursion (DividesAll l) fs
       → AllByRecursion Divides (flat_map (λ q. q) (map denominators fs))
   all_divide [] h = tt
@@ -77,6 +80,7 @@ module _ (l : ℕ) where
       both_divide (denominators f) (flat_map (λ q. q) (map denominators fs)) h.0
       (all_divide fs h.1)
 
+  -- what is said of an entry's denominators
   abbrev pub EntryDivides : Fitted × Weight → Type 0
   EntryDivides e = DividesAll l e.0 × AllByRecursion Divides (denominator_of e.1)
 
@@ -86,6 +90,7 @@ module _ (l : ℕ) where
   abbrev pub with_weight : List ℕ × Weight → List ℕ
   with_weight e = e.0 ++ denominator_of e.1
 
+  -- entries that divide, divide together
   pub entries_divide : (es : List (Fitted × Weight)) → AllByRecursion EntryDivides es
       → AllByRecursion Divides (flat_map with_weight (numbers es))
   entries_divide [] h = tt
@@ -94,6 +99,7 @@ module _ (l : ℕ) where
       (flat_map with_weight (numbers es))
       (both_divide (denominators e.0) (denominator_of e.1) h.0.0 h.0.1) (entries_divide es h.1)
 
+  -- a tree whose layer divides, divides
   pub divides_of : (f : Fitted) (x : Fitted-F Fitted) → out-Fitted f ≡ x
       → AllByRecursion Divides (denominators_step (map-Fitted Fitted (List ℕ) denominators x))
       → DividesAll l f
@@ -121,6 +127,7 @@ naturals_shape fs (Value-F.Inj k v) h = absurd (true≢false (sym h))
 naturals_shape fs (Value-F.Set vs) h = absurd (true≢false (sym h))
 naturals_shape fs (Value-F.Weights es) h = absurd (true≢false (sym h))
 
+-- a power that fits has a part for each label
 pub power_count : (labels : LabelSet) (fs : List Check) (v : Value)
     → fits_level (Power labels) fs (out-Value v) ≡ true
     → length (parts v) ≡ label_count labels
@@ -166,6 +173,7 @@ Writes l names n w g s x y = (v : Value) → IsTested names x y v → IsWritten 
 module _ (l : ℕ) (names : List (List ℕ)) (are : AreNames names) where
   -- ---- leaves
 
+  -- a state is written and read back
   pub state_written : (n : ℕ) (ws : List Write) (gs : List Fit) (ss : List Scale)
       (xs ys : List Check)
       → Writes l names n (write_step l names State ws) (free_step names State gs)
@@ -191,6 +199,7 @@ module _ (l : ℕ) (names : List (List ℕ)) (are : AreNames names) where
         divides = divides_of l (fitted.State i) (Fitted-F.State i) (shown.outs-State i) tt;
       }
 
+  -- a label is written and read back
   pub label_written : (n : ℕ) (labels : LabelSet) → AreLabels labels → (ws : List Write)
       (gs : List Fit) (ss : List Scale) (xs ys : List Check)
       → Writes l names n (write_step l names (Constant labels) ws)
@@ -218,6 +227,7 @@ module _ (l : ℕ) (names : List (List ℕ)) (are : AreNames names) where
         divides = divides_of l (fitted.Label k) (Fitted-F.Label k) (shown.outs-Label k) tt;
       }
 
+  -- a number is written and read back
   pub number_written : (n : ℕ) (ws : List Write) (gs : List Fit) (ss : List Scale)
       (xs ys : List Check)
       → Writes l names n (write_step l names Naturals ws) (free_step names Naturals gs)

@@ -48,6 +48,7 @@ module _ (l n : ℕ) (w : Write) (g : Fit) (s : Scale) where
     pub back : map s fitted ≡ vs
     pub divides : AllByRecursion (DividesAll l) fitted
 
+  -- members that are written, one by one, are written together
   pub members : (vs : List Value) → AllByRecursion Written vs → AreMembers vs
   members [] all = record {
     entries = [];
@@ -113,6 +114,7 @@ module _ (l n : ℕ) (w : Write) (g : Fit) (s : Scale) where
   abbrev pub IsEntry : Node → Value × ℤ → Type 0
   IsEntry m e = Written e.0 × IsWeightText l m e.1
 
+  -- entries that are written, one by one, are written together
   pub entries-of : (m : Node) (es : List (Value × ℤ)) → AllByRecursion (IsEntry m) es
       → AreEntries m es
   entries-of m [] all = record {
@@ -188,6 +190,7 @@ module _ (l n : ℕ) (w : Write) (g : Fit) (s : Scale) where
       let rest = length-push done f in
       let e : suc (length done + 1) ≡ suc (length done) + 1 = omega arith in ap suc rest ∙ e
 
+  -- parts that are written, one by one, are written together behind their labels
   pub powers : (labels : LabelSet) → AreLabels labels → (k : ℕ) (vs : List Value)
       → k + length vs ≤ label_count labels → AllByRecursion Written vs → ArePowers labels k vs
   powers labels good k [] few all = record {

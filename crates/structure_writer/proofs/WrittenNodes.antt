@@ -434,6 +434,7 @@ module _ (l : ℕ) (some : 1 ≤ l) (small : l ≤ 2 ^ 40) (names : List (List �
   over_one m (a ∷ b ∷ xs) arity good h =
       absurd (omega (arith, one_alone (length (a ∷ b ∷ xs)) arity))
 
+  -- a node over children that are written is written
   pub node-written : (m : Node) (xs : List A) → IsTrue (takes m (length xs)) → HasLabels m
       → length xs ≤ 256 → AllByRecursion IsGood xs → NodeWrites m xs
   node-written State xs arity labels few good =

@@ -8,12 +8,15 @@ use Rattle.typing.specs.declared.value.Value.{Value, Value-F, out-Value, map-Val
 use Rattle.typing.specs.Values.{parts, inner, entries, parts_in, inner_in, entries_in}
 use Rattle.typing.specs.Bounds.{within_step, is_within, absolute_sum}
 
+-- whether a layer is within the bound
 abbrev pub layer_within : ℕ → Value-F Value → Bool
 layer_within m x = within_step m (map-Value Value Bool (is_within m) x)
 
+-- the bound, layer by layer
 pub within_out : (m : ℕ) (v : Value) → is_within m v ≡ layer_within m (out-Value v)
 within_out m v = fold_out-Value Bool (within_step m) v
 
+-- the parts of a value are within the bound
 pub parts_within : (m : ℕ) (v : Value) → is_within m v ≡ true
     → list_all (is_within m) (parts v) ≡ true
 parts_within m v h = by (out-Value v) (sym (within_out m v) ∙ h)
@@ -26,6 +29,7 @@ parts_within m v h = by (out-Value v) (sym (within_out m v) ∙ h)
     by (Value-F.Inj k v) h = refl
     by (Value-F.Weights es) h = refl
 
+-- the value in an injection is within the bound
 pub inner_within : (m : ℕ) (v : Value) → is_within m v ≡ true → is_within m (inner v) ≡ true
 inner_within m v h = by (out-Value v) (sym (within_out m v) ∙ h)
   where
@@ -41,6 +45,7 @@ inner_within m v h = by (out-Value v) (sym (within_out m v) ∙ h)
 abbrev pub tested : ℕ → List (Value × ℤ) → List (Bool × ℤ)
 tested m es = map (λ e. (is_within m e.0, e.1)) es
 
+-- the elements of weights are within the bound
 pub entries_within : (m : ℕ) (v : Value) → is_within m v ≡ true
     → list_all (λ e. is_within m e.0) (entries v) ≡ true
 entries_within m v h = by (out-Value v) (sym (within_out m v) ∙ h)

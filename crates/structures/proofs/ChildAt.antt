@@ -40,12 +40,14 @@ module _ (qs : List ℕ) (k : ℕ) (us : List Value) (i : ℕ) (h : i < length (
       ⊎_elim (λ (w : k < length qs). w)
       (λ w. absurd (omega (arith, h, ap length (at_child-past qs k us w)))) (cases_lt k (length qs))
 
+  -- what stands at a child stands in the list
   pub value_there : i < length us
   value_there =
       let one : length (at_node (slice_index qs k) us) ≡ length us =
       length-map us (λ u. (slice_index qs k, u)) in
       omega (arith, h, ap length (at_child-within qs k us node_there), one)
 
+  -- a value in a list stands at the child
   pub child_there :
       (u : Value) → slice_get us i ≡ Some u →
       slice_get (at_child qs k us) i ≡ Some (slice_index qs k, u)
@@ -63,6 +65,7 @@ zip_inside (q ∷ qs) (u ∷ us) zero h = (omega arith, omega arith)
 zip_inside (q ∷ qs) (u ∷ us) (suc i) h =
     let w = zip_inside qs us i (omega arith) in (omega (arith, w.0), omega (arith, w.1))
 
+-- pairs are as many as the shorter list
 pub zip_length :
     (qs : List ℕ) (us : List Value) → length (zip qs us) ≡ min (length qs) (length us)
 zip_length [] us = omega arith

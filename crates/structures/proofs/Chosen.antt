@@ -6,26 +6,29 @@ use Rattle.std.specs.Prelude.{slice_index_or, ◌==◌, if◌then◌else◌}
 use Rattle.std.specs.List.{flat_map, AllByRecursion, AllPairs}
 use Rattle.std.proofs.lemmas.Bool.Decides.{nat_tests}
 use Rattle.std.proofs.lemmas.Option.{same_Some, none-some}
+use Rattle.std.proofs.lemmas.List.{append-nil}
 use Rattle.functor_terms.specs.Terms.{Nodes}
 use Rattle.typing.specs.Layers.{Place, leaves_of}
 use Rattle.edge_store.specs.Edges.{chosen}
 use Rattle.structures.specs.Structures.{repeated, sources_from}
-use Rattle.structures.proofs.Expands.{append_none}
 
 other_test : (a b : ℕ) → a < b → (a == b) ≡ false
 other_test a b h = grind (arith, nat_tests)
 
+-- a smaller number is another
 pub later_test : (a b : ℕ) → b < a → (a == b) ≡ false
 later_test a b h = grind (arith, nat_tests)
 
 same_test : (a : ℕ) → (a == a) ≡ true
 same_test a = grind (arith, nat_tests)
 
+-- as many as are repeated
 pub length-repeated : (k n : ℕ) → length (repeated k n) ≡ n
 length-repeated k zero = refl
 length-repeated k (suc n) = ap suc (length-repeated k n)
 
 module _ {X : Type 0} where
+  -- what is chosen from two lists is chosen from both together
   pub chosen-append :
       (k : ℕ) (keys more : List ℕ) (xs ys : List X) → length xs ≡ length keys →
       chosen k (keys ++ more) (xs ++ ys) ≡ chosen k keys xs ++ chosen k more ys
@@ -44,6 +47,7 @@ module _ {X : Type 0} where
       by true e = ap (λ l. x ∷ l) e
       by false e = e
 
+  -- of the same keys all is chosen
   pub chosen-repeated :
       (k n : ℕ) (xs : List X) → length xs ≡ n → chosen k (repeated k n) xs ≡ xs
   chosen-repeated k zero [] h = refl
@@ -54,6 +58,7 @@ module _ {X : Type 0} where
       ap (λ b. if b then x ∷ rest else rest) (same_test k)
       ∙ ap (λ l. x ∷ l) (chosen-repeated k n xs (omega arith))
 
+  -- of other keys nothing is chosen
   pub chosen-other :
       (k j n : ℕ) (xs : List X) → (j == k) ≡ false → chosen k (repeated j n) xs ≡ []
   chosen-other k j zero xs h = refl
@@ -82,6 +87,7 @@ module _ {X : Type 0} where
         skipped k first (length (leaves_of t z)) (sources_from t (first + 1) zs)
         (later_test first k h) (chosen-before k (first + 1) zs (omega (arith, h))) xs
 
+    -- of keys past the places nothing is chosen
     pub chosen-past :
         (k first : ℕ) (places : List Place) → first + length places ≤ k → (xs : List X) →
         chosen k (sources_from t first places) xs ≡ []
@@ -110,7 +116,7 @@ module _ {X : Type 0} where
         (chosen-repeated first count (f z) one)
         ∙ ap (λ l. f z ++ l)
         (chosen-before first (first + 1) zs (omega arith) (flat_map f zs))
-        ∙ append_none (f z) ∙ ap f (same_Some z x e)
+        ∙ append-nil (f z) ∙ ap f (same_Some z x e)
     chosen-block f first (z ∷ zs) h (suc y) x e =
         let next : first + 1 + y ≡ first + suc y = omega arith in
         let one : length (f z) ≡ length (leaves_of t z) = h 0 z refl in
@@ -125,13 +131,14 @@ module _ {X : Type 0} where
 
 -- one more structure
 module _ (t : Nodes) where
+  -- the sources of one place more
   pub sources-snoc :
       (first : ℕ) (xs : List Place) (x : Place) →
       sources_from t first (xs ++ x ∷ [])
       ≡ sources_from t first xs ++ repeated (first + length xs) (length (leaves_of t x))
   sources-snoc first [] x =
       let zeroth : first ≡ first + 0 = omega arith in
-      append_none (repeated first (length (leaves_of t x)))
+      append-nil (repeated first (length (leaves_of t x)))
       ∙ ap (λ k. repeated k (length (leaves_of t x))) zeroth
   sources-snoc first (z ∷ zs) x =
       let next : first + 1 + length zs ≡ first + suc (length zs) = omega arith in
@@ -141,6 +148,7 @@ module _ (t : Nodes) where
       ++ repeated k (length (leaves_of t x)))) next
       ∙ sym (append_assoc here (sources_from t (first + 1) zs) _)
 
+-- the next element of a front
 pub take_next :
     {X : Type 0} (xs : List X) (i : ℕ) (x : X) → slice_get xs i ≡ Some x →
     take (i + 1) xs ≡ take i xs ++ x ∷ []
@@ -185,11 +193,13 @@ ascending_pairs n (k ∷ ks) h (suc i) zero d l w = absurd (omega arith)
 ascending_pairs n (k ∷ ks) h (suc i) (suc j) d l w =
     ascending_pairs k ks h.1 i j d (omega arith) (omega arith)
 
+-- the sources ascend
 pub sources_ascend :
     (t : Nodes) (places : List Place) → AllPairs (λ a b. a ≤ b) (sources_from t 0 places)
 sources_ascend t places =
     ascending_pairs 0 (sources_from t 0 places) (sources_on t 0 0 places (omega arith))
 
+-- what holds of each, one after the other, holds of all
 pub all_of :
     {X : Type 0} (P : X → Type 0) (xs : List X) → AllByRecursion P xs → All P xs
 all_of P [] h k d l = absurd (omega arith)
@@ -210,6 +220,7 @@ sources_below t first end (z ∷ zs) h =
     below_on first (length (leaves_of t z)) end (sources_from t (first + 1) zs) (omega (arith, h))
     (sources_below t (first + 1) end zs (omega (arith, h)))
 
+-- the sources are places
 pub sources_inside :
     (t : Nodes) (places : List Place) →
     All (λ s. s < length places) (sources_from t 0 places)

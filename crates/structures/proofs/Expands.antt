@@ -4,7 +4,7 @@ use Rattle.std.specs.Prelude.{unwrap_or, slice_index}
 use Rattle.std.specs.List.{zip}
 use Rattle.std.proofs.lemmas.Option.{same_Some, none-some}
 use Rattle.std.proofs.lemmas.Bool.{cases_lt}
-use Rattle.std.proofs.lemmas.List.{drop_all}
+use Rattle.std.proofs.lemmas.List.{drop_all, append-nil}
 use Rattle.functor_terms.specs.declared.node.Node.{Node}
 use Rattle.functor_terms.specs.declared.node.Node.TheVariants.{State, Constant, Naturals, Product, Sum, Power, Powerset, Bag, Distribution, Integers, Rationals}
 use Rattle.functor_terms.specs.Terms.{Nodes, IsTerm, node_at, children_at}
@@ -97,6 +97,7 @@ at_inside n qs k us h =
     (λ w. subst (AreInside n) (sym (at_child-past qs k us w)) (none_inside n))
     (cases_lt k (length qs))
 
+-- the children of a place are at nodes of the term
 pub children_inside :
     (t : Nodes) (p : ℕ) (v : Value) → IsTerm t → p < length t → (i : ℕ) (x : Place) →
     slice_get (children_of t (p, v)) i ≡ Some x → x.0 < length t
@@ -138,12 +139,14 @@ drop_at {X = X} (y ∷ ys) (suc i) x e = drop_at ys i x e
 -- one turn of the loop over the children
 module _ (t : Nodes) (kids : List Place) (i : ℕ) (x : Place) (at : slice_get kids i ≡ Some x)
     (places after : List Place) (added : after ≡ places ++ layers_in t (x ∷ [])) where
+  -- a child that is a layer is the next place
   pub link_places : (all : List Place) → places ++ layers_in t (drop i kids) ≡ all
       → after ++ layers_in t (drop (i + 1) kids) ≡ all
   link_places all h = ap (λ l. l ++ layers_in t (drop (i + 1) kids)) added
       ∙ step_places t x (drop (i + 1) kids) places
       ∙ sym (ap (λ l. places ++ layers_in t l) (drop_at kids i x at)) ∙ h
 
+  -- one child less is left
   pub link_few : (n : ℕ) → length places + length (drop i kids) ≤ n
       → length after + length (drop (i + 1) kids) ≤ n
   link_few n h =
@@ -153,6 +156,7 @@ module _ (t : Nodes) (kids : List Place) (i : ℕ) (x : Place) (at : slice_get k
       (sym added) (step_count t x [] places) in
       omega (arith, one, two)
 
+  -- a child has the place as its source
   pub link_sources :
       (source : ℕ) (sources more all : List ℕ) → more ≡ sources ++ source ∷ [] →
       sources ++ repeated source (length (drop i kids)) ≡ all →
@@ -162,6 +166,7 @@ module _ (t : Nodes) (kids : List Place) (i : ℕ) (x : Place) (at : slice_get k
       ap (λ l. l ++ rest) pushed ∙ append_assoc sources (source ∷ []) rest
       ∙ sym (ap (λ l. sources ++ repeated source (length l)) (drop_at kids i x at)) ∙ h
 
+  -- a child's target is a state, or the place that it gets
   pub link_targets :
       (y : ℕ) (targets more all : List ℕ) →
       y ≡ cond (is_state_at t x) (unwrap_or (state x.1) 0) (length places) →
@@ -178,25 +183,24 @@ module _ (t : Nodes) (kids : List Place) (i : ℕ) (x : Place) (at : slice_get k
       ∙ step_targets t x rest places targets
       ∙ sym (ap (λ l. targets ++ targets_of t (length places) l) (drop_at kids i x at)) ∙ h
 
-pub append_none : {X : Type 0} (xs : List X) → xs ++ [] ≡ xs
-append_none [] = refl
-append_none (x ∷ xs) = ap (λ l. x ∷ l) (append_none xs)
-
+-- behind the last child the places are all
 pub linked_places : (t : Nodes) (kids places all : List Place) (i : ℕ) → length kids ≤ i
     → places ++ layers_in t (drop i kids) ≡ all → places ≡ all
 linked_places t kids places all i past h =
-    sym (append_none places) ∙ ap (λ l. places ++ layers_in t l) (sym (drop_all i kids past)) ∙ h
+    sym (append-nil places) ∙ ap (λ l. places ++ layers_in t l) (sym (drop_all i kids past)) ∙ h
 
+-- behind the last child the sources are all
 pub linked_sources :
     (kids : List Place) (source i : ℕ) (sources all : List ℕ) → length kids ≤ i →
     sources ++ repeated source (length (drop i kids)) ≡ all → sources ≡ all
 linked_sources kids source i sources all past h =
-    sym (append_none sources)
+    sym (append-nil sources)
     ∙ ap (λ l. sources ++ repeated source (length l)) (sym (drop_all i kids past)) ∙ h
 
+-- behind the last child the targets are all
 pub linked_targets :
     (t : Nodes) (kids : List Place) (i next : ℕ) (targets all : List ℕ) → length kids ≤ i →
     targets ++ targets_of t next (drop i kids) ≡ all → targets ≡ all
 linked_targets t kids i next targets all past h =
-    sym (append_none targets)
+    sym (append-nil targets)
     ∙ ap (λ l. targets ++ targets_of t next l) (sym (drop_all i kids past)) ∙ h

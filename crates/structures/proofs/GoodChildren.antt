@@ -173,6 +173,7 @@ module _ (f : ℕ → Check) (B : Value → Bool) (qs : List ℕ) (p : ℕ) (v :
       at_good f B qs 0 (weighed v) (of_weighed f B qs (check_at (map f qs) 0) v h)
       (of_weighed f B qs B v in_entries)
 
+  -- the children of what fits, fit
   pub children_good : (m : Node) → (m ≡ State → ⊥) → Goal m
   children_good State other h = absurd (other refl)
   children_good (Constant labels) other h = none_good f B qs

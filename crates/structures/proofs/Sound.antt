@@ -27,12 +27,14 @@ kept_at [] ys i x e = absurd (none-some x e)
 kept_at (z ∷ xs) ys zero x e = e
 kept_at (z ∷ xs) ys (suc i) x e = kept_at xs ys i x e
 
+-- an element of two lists is one of the first or of the second
 pub either_at : {X : Type 0} (xs ys : List X) (i : ℕ) (x : X) → slice_get (xs ++ ys) i ≡ Some x
     → (slice_get xs i ≡ Some x) ⊎ ((k : ℕ) × (slice_get ys k ≡ Some x))
 either_at [] ys i x e = inr (i, e)
 either_at (z ∷ xs) ys zero x e = inl e
 either_at (z ∷ xs) ys (suc i) x e = either_at xs ys i x e
 
+-- an element within the first list is one of the first
 pub first_part : {X : Type 0} (xs ys : List X) (i : ℕ) (x : X) → i < length xs
     → slice_get (xs ++ ys) i ≡ Some x → slice_get xs i ≡ Some x
 first_part [] ys i x h e = absurd (omega arith)
@@ -72,6 +74,7 @@ map_same : {X A : Type 0} (f g : X → A) (xs : List X) → ((i : ℕ) (x : X) �
 map_same f g [] h = refl
 map_same f g (x ∷ xs) h = λ k. h 0 x refl k ∷ map_same f g xs (λ i y e. h (suc i) y e) k
 
+-- what is left of two lists behind a place in the first
 pub drop-append : {X : Type 0} (xs ys : List X) (i : ℕ) → i ≤ length xs
     → drop i (xs ++ ys) ≡ drop i xs ++ ys
 drop-append [] ys zero h = refl
@@ -79,6 +82,7 @@ drop-append [] ys (suc i) h = absurd (omega arith)
 drop-append (x ∷ xs) ys zero h = refl
 drop-append (x ∷ xs) ys (suc i) h = drop-append xs ys i (omega arith)
 
+-- a sum over two lists is that of both together
 pub added-append : (f : Place → ℕ) (xs ys : List Place)
     → added (map f (xs ++ ys)) ≡ added (map f xs) + added (map f ys)
 added-append f [] ys = omega arith
@@ -105,6 +109,7 @@ fold-past other step t (suc n) p h =
     ap (λ o. option_map_or (λ b. step b.node (map (fold_within other step t n) b.children)) o other)
     (slice_get_past t p h)
 
+-- what fits, fits at a node of the term
 pub fits_inside : (t : Nodes) (p : ℕ) (v : Value) → fits t p v ≡ true → p < length t
 fits_inside t p v h =
     ⊎_elim (λ w. w.1)
@@ -150,6 +155,7 @@ module _ (t : Nodes) (is : IsTerm t) (n : ℕ) where
       → slice_get (children_of t x) i ≡ Some z
   as_child x z i at = ap (λ l. slice_get l i) (sym (leaves-children t x)) ∙ at
 
+  -- a child of what is sound is sound
   pub kid_sound : (x : Place) → IsSound x → (i : ℕ) (z : Place)
       → slice_get (leaves_of t x) i ≡ Some z → IsSound z
   kid_sound x sound i z at = ⊎_elim
@@ -161,6 +167,7 @@ module _ (t : Nodes) (is : IsTerm t) (n : ℕ) where
       itself zero e = subst IsSound (same_Some x z e) sound
       itself (suc i) e = absurd (none-some z e)
 
+  -- a layer below what is sound stands later in the term, and is sound
   pub layer_later : (x : Place) → IsSound x → (i : ℕ) (z : Place)
       → slice_get (layers_in t (leaves_of t x)) i ≡ Some z
       → (x.0 < z.0) × (z.0 < length t) × IsSound z
@@ -194,6 +201,7 @@ module _ (t : Nodes) (is : IsTerm t) (n : ℕ) where
         (λ i z at. let (later, last, good) = layer_later x sound i z at in
         deep k m z good last (omega arith) (omega arith)))
 
+    -- a fold over places, one place after the other
     pub over-at : (x : Place) → IsSound x → over_within other step (leaves_of t) t (length t) x
         ≡ step x (map (over_within other step (leaves_of t) t (length t))
         (layers_in t (leaves_of t x)))
@@ -223,6 +231,7 @@ module _ (t : Nodes) (is : IsTerm t) (n : ℕ) where
   leads_kept places more State z k h = h
   leads_kept places more m z k h = kept_at places more k z h
 
+  -- what leads to places leads to them where there are more
   pub all_kept : (places more kids : List Place) (ks : List ℕ) → AllZip (Leads places) kids ks
       → AllZip (Leads (places ++ more)) kids ks
   all_kept places more [] [] h = tt
@@ -233,6 +242,7 @@ module _ (t : Nodes) (is : IsTerm t) (n : ℕ) where
     all_kept places more zs ks h.1,
   )
 
+  -- children lead to the places that they get
   pub kids_lead : (places kids : List Place) → ((i : ℕ) (z : Place) → slice_get kids i ≡ Some z
       → IsSound z) → AllZip (Leads (places ++ layers_in t kids)) kids (targets_of t (length places)
       kids)

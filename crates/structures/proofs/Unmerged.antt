@@ -13,6 +13,7 @@ same_over other step t zero x = refl
 same_over other step t (suc n) x =
     λ i. step x (map (λ y. same_over other step t n y i) (layers_in t (leaves-children t x i)))
 
+-- structures are as many as the sorted states
 pub same_count :
     (t : Nodes) (values : List Value) → structure_count t values ≡ sorted_count t values
 same_count t values =

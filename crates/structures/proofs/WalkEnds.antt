@@ -16,10 +16,12 @@ use Rattle.structures.specs.Structures.{Occurrence, StandsFor, LeadsBy, IsLayer,
 use Rattle.structures.specs.Walk.{LeadsTo, IsWalked}
 use Rattle.structures.proofs.Chosen.{sources_ascend, sources_inside, all_of}
 
+-- as many numbers as asked for
 pub length-numbers : (first n : ℕ) → length (numbers_on first n) ≡ n
 length-numbers first zero = refl
 length-numbers first (suc n) = ap suc (length-numbers (first + 1) n)
 
+-- the i-th number behind the first
 pub number_at : (first n i : ℕ) → i < n → slice_index (numbers_on first n) i ≡ first + i
 number_at first zero i h = absurd (omega arith)
 number_at first (suc n) zero h = omega arith
@@ -32,6 +34,7 @@ module _ (sources targets : List ℕ) where
   abbrev here : ℕ → Place → Occurrence
   here k x = record { node = x.0; value = x.1; targets = chosen k sources targets }
 
+  -- the occurrence that a place is made into
   pub occurrence_at :
       (first : ℕ) (places : List Place) (y : ℕ) (x : Place) → slice_get places y ≡ Some x →
       slice_get (occurrences_from first places sources targets) y ≡ Some (here (first + y) x)
@@ -43,6 +46,7 @@ module _ (sources targets : List ℕ) where
       let next : first + 1 + y ≡ first + suc y = omega arith in
       occurrence_at (first + 1) zs y x e ∙ ap (λ k. Some (here k x)) next
 
+  -- the place that an occurrence was made of
   pub place_of :
       (first : ℕ) (places : List Place) (y : ℕ) (o : Occurrence) →
       slice_get (occurrences_from first places sources targets) y ≡ Some o →
@@ -136,6 +140,7 @@ module _
       walked.by_source
       ∙ ap (λ l. sources_from t 0 l) (take_all (length places) places (omega arith))
 
+  -- once all places are walked they are the structures
   pub walked_end :
       length places < 2 ^ 26 → length targets < 2 ^ 26 →
       AreStructures t values places sources targets

@@ -14,10 +14,11 @@ use Rattle.typing.proofs.StableLaws.{each_of}
 use Rattle.edge_store.specs.Edges.{chosen}
 use Rattle.structures.specs.Structures.{repeated, sources_from}
 use Rattle.structures.specs.Walk.{targets_of, LeadsTo, IsWalked}
-use Rattle.structures.proofs.Expands.{drop_at, append_none}
+use Rattle.structures.proofs.Expands.{drop_at}
 use Rattle.structures.proofs.Chosen.{length-repeated, chosen-append, chosen-repeated, chosen-other, chosen-past, sources-snoc, take_next, later_test}
 use Rattle.structures.proofs.Sound.{IsSound, kept_at, either_at, layer_at, first_part, drop-append, added-append, kid_sound, layer_later, over-at, all_kept, kids_lead, fits_inside}
 use Rattle.std.proofs.lemmas.Option.{same_Some, none-some, slice_get_within}
+use Rattle.std.proofs.lemmas.List.{append-nil}
 
 length-take : {X : Type 0} (xs : List X) (i : ℕ) → i ≤ length xs → length (take i xs) ≡ i
 length-take [] zero h = refl
@@ -33,6 +34,7 @@ take_first [] ys (suc i) h = absurd (omega arith)
 take_first (x ∷ xs) ys zero h = refl
 take_first (x ∷ xs) ys (suc i) h = ap (λ l. x ∷ l) (take_first xs ys i (omega arith))
 
+-- a target for each child
 pub targets_count : (t : Nodes) (n : ℕ) (kids : List Place)
     → length (targets_of t n kids) ≡ length kids
 targets_count t n [] = refl
@@ -122,7 +124,7 @@ module _
   chosen_old y h =
       chosen_both y
       ∙ ap (λ l. chosen y sources targets ++ l) (chosen-other y at count new (later_test at y h))
-      ∙ append_none (chosen y sources targets)
+      ∙ append-nil (chosen y sources targets)
 
   chosen_new : chosen at new_sources new_targets ≡ new
   chosen_new =
@@ -172,6 +174,7 @@ module _
       (λ ks. AllZip (λ w k. LeadsTo (node_at t w.0) n (places ++ more) w k) (leaves_of t x) ks)
       (sym those) leads)
 
+  -- one place more is walked
   pub walked_step : IsWalked t values (places ++ more) new_sources new_targets (at + 1)
   walked_step = record {
     rooted = λ i v e. kept_at places more i (0, v) (walked.rooted i v e);
@@ -276,6 +279,7 @@ module _
       (λ i x e. sound (at + i) x (dropped_at places at i x e)) in
       omega (arith, least, length-drop places at, walked.counted)
 
+  -- the node of a place is one of the term
   pub node_inside : (y : ℕ) (x : Place) → slice_get places y ≡ Some x → x.0 < length t
   node_inside y x e = fits_inside t x.0 x.1 (walked.fit y x e).0
 
@@ -317,6 +321,7 @@ module _
   none_taken [] = refl
   none_taken (x ∷ xs) = refl
 
+  -- before the first place the places are the roots
   pub walked_start : IsWalked t values (roots_of values) [] [] 0
   walked_start = record {
     rooted = root_of values;

@@ -57,12 +57,14 @@ text_is : (kind : TrialKind) (seed size : ℕ) (some : 0 < size) (few : size ≤
 text_is kind seed size some few =
     ap (λ l. (functor_text kind ++ codes "\n") ++ l) (lines-are size some few kind size 0 seed)
 
+-- the texts of trials are short
 pub texts-short : TrialTextsAreShort
 texts-short kind seed size sized =
     let some : 0 < size = omega (arith, sized.0) in
     subst (λ (text : List ℕ). length text < 2 ^ 24) (sym (text_is kind seed size some sized.1))
     (whole-short size some sized.1 kind seed)
 
+-- the texts of trials are accepted
 pub texts-accepted : TrialTextsAreAccepted
 texts-accepted kind seed size sized =
     let some : 0 < size = omega (arith, sized.0) in

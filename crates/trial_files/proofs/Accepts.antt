@@ -95,6 +95,7 @@ module _ (t : Nodes) (names : List (List ℕ)) where
   trees [] all = []
   trees (text ∷ texts) all = all.0.tree ∷ trees texts all.1
 
+  -- what the texts are read as
   abbrev pub fitteds : (texts : List (List ℕ)) → AllByRecursion (IsGood t names) texts → List Fitted
   fitteds [] all = []
   fitteds (text ∷ texts) all = all.0.fitted ∷ fitteds texts all.1
@@ -199,6 +200,7 @@ module _ (t : Nodes) (names : List (List ℕ)) (are : AreNames names) (functor :
   same_names =
       names_are [] rows (subst (IsDistinct is_same_word) (sym same_heads) are.distinct) ∙ same_heads
 
+  -- good texts make a file that is accepted
   pub good-accepted : AreAccepted t names ((functor ++ codes "\n") ++ lines_with names texts) fs
   good-accepted =
       let within = all_bounded t names 1 2 (one-dvd 8) names texts all count in

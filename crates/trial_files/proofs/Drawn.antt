@@ -74,15 +74,18 @@ module _ (size : ℕ) (some : 0 < size) (few : size ≤ 200000) where
     abbrev pub texts_from : ℕ → ℕ → List (List ℕ)
     texts_from n x = map structure_text (structures kind size n x)
 
+    -- each text that is drawn is good
     pub all-good : (n x : ℕ)
         → AllByRecursion (IsGood (term_of kind) (names_from 0 size)) (texts_from n x)
     all-good zero x = tt
     all-good (suc n) x = (structure_good kind x, all-good n (number (draws_of kind x) x))
 
+    -- as many texts are drawn as asked for
     pub texts-count : (n x : ℕ) → length (texts_from n x) ≡ n
     texts-count zero x = refl
     texts-count (suc n) x = ap suc (texts-count n (number (draws_of kind x) x))
 
+    -- the lines that are drawn are those of the texts
     pub lines-are : (n i x : ℕ)
         → lines_text i (structures kind size n x) ≡ lines_with (names_from i n) (texts_from n x)
     lines-are zero i x = refl

@@ -173,6 +173,7 @@ module _ (size : ℕ) (few : size ≤ 200000) where
       (λ x. refl)
       (λ x. pass_entries (sums_hold are_any l (term_of Sums) 3) (λ y. refl) (entries x)) (parts v)
 
+  -- drawn sums are good
   pub sums-good : (m : ℕ) → m < 2 → (ps : List (ℕ × ℕ)) → AllByRecursion (IsSum size) ps
       → length ps ≤ 3 → IsGood (term_of Sums) names (structure_text (sums m ps))
   sums-good m h ps all count =
@@ -249,6 +250,7 @@ module _ (size : ℕ) (few : size ≤ 200000) where
       (λ x. refl) (λ x. pass_all (sums_hold are_any l (term_of Dfa) 3) (λ y. refl) (parts x))
       (parts v)
 
+  -- a drawn pair of ends is good
   pub ends-good : (m a b : ℕ) → m < 2 → a < size → b < size
       → IsGood (term_of Dfa) names (structure_text (ends m a b))
   ends-good m a b h ha hb =
@@ -333,6 +335,7 @@ module _ (size : ℕ) (few : size ≤ 200000) where
             );
       }
 
+  -- a drawn step of a chain is good
   pub chances-good : (m k a b : ℕ) → m < 2 → AreEighths k → a < size → b < size
       → IsGood (term_of Chain) names (structure_text (chances m a b k))
   chances-good m k a b h are ha hb =

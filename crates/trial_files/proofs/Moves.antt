@@ -99,6 +99,7 @@ module _ (size : ℕ) (few : size ≤ 200000) where
       (λ w. pass_two (sums_hold are_any l (term_of Lts) 2) (sums_hold are_any l (term_of Lts) 3)
       (λ x. refl) (λ x. refl) (parts w)) (parts v)
 
+  -- drawn moves are good
   pub moves-good : (ps : List (ℕ × ℕ)) → AllByRecursion (IsMove size) ps → length ps ≤ 3
       → IsGood (term_of Lts) names (structure_text (moves ps))
   moves-good ps all count =

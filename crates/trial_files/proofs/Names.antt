@@ -84,6 +84,7 @@ each_name : (i n : ℕ) → i + n ≤ 200000 → AllByRecursion IsName (names_fr
 each_name i zero h = tt
 each_name i (suc n) h = (name-is i (omega (arith, h)), each_name (i + 1) n (omega (arith, h)))
 
+-- as many names as asked for
 pub names-count : (i n : ℕ) → length (names_from i n) ≡ n
 names-count i zero = refl
 names-count i (suc n) = ap suc (names-count (i + 1) n)

@@ -3,6 +3,7 @@ use Rattle.std.proofs.Common.{◌≡◌, ℕ, zero, suc, ◌+◌, ◌<◌, ◌�
 use Rattle.std.specs.Prelude.{ℤ, slice_index, EachIndex}
 use Rattle.std.specs.List.{list_all, AllZip}
 use Rattle.std.proofs.lemmas.Bool.{and_parts, ltb-true}
+use Rattle.std.proofs.lemmas.Option.{slice_get-get_or}
 use Rattle.file_cut.specs.declared.tree.Tree.{Tree}
 use Rattle.functor_terms.specs.declared.node.Node.{Node}
 use Rattle.functor_terms.specs.declared.node.Node.TheVariants.{Product}
@@ -17,7 +18,7 @@ use Rattle.typing.proofs.NormalLaws.{same_value}
 use Rattle.typing.proofs.OrderLaws.{child-total}
 use Rattle.typing.proofs.OwnLabels.{count_from, count_at}
 use Rattle.typing.proofs.ReadyLaws.{ready_check, ready_level, ready_from}
-use Rattle.typing.proofs.RelabelSteps.{at_state, at_label, inner_ready, at_inner, places_are_ready, at_places, parts_ready, at_parts, members_ready, at_members, entries_are_ready, at_entries, child_ready, child_relabelled, got}
+use Rattle.typing.proofs.RelabelSteps.{at_state, at_label, inner_ready, at_inner, places_are_ready, at_places, parts_ready, at_parts, members_ready, at_members, entries_are_ready, at_entries, child_ready, child_relabelled}
 use Rattle.typing.proofs.TermFacts.{are_later, children_later, later_first, later_rest, child_later, child_exists}
 use Rattle.fitting.specs.declared.fitted.Fitted.{Fitted}
 use Rattle.fitting.specs.Fitting.{fitting}
@@ -45,7 +46,7 @@ module _ (t : Nodes) (is : IsTerm t) (b : List ℕ) where
         let there : k < length qs =
         child_exists t qs k v (ready_check (length b) (child_check t p k) v ready) in
         let q : ℕ = get_or qs k 0 in
-        let at : slice_get qs k ≡ Some q = got qs k there in
+        let at : slice_get qs k ≡ Some q = slice_get-get_or qs k 0 there in
         let range = child_later t is p k q at in
         let made = later q range.0 range.1 v (child_ready t p k q (length b) v at ready) in
         (made.0, child_relabelled t b p k q v made.0 at made.1)

@@ -31,6 +31,7 @@ letter-is (suc zero) h = (((omega arith, refl), λ e. cc), refl)
 letter-is (suc (suc zero)) h = (((omega arith, refl), λ e. cc), refl)
 letter-is (suc (suc (suc l))) h = absurd (omega (arith, h))
 
+-- a letter is a name, and one of two labels
 pub end-is : (l : ℕ) → l < 2
     → IsName (letter_text l) × (label_number two_letters (letter_text l) ≡ Some l)
 end-is zero h = (((omega arith, refl), λ e. cc), refl)
@@ -43,6 +44,7 @@ pub record IsMark (m : ℕ) : Type 0 where
   pub short : length (decimal m) ≤ 1
   pub read : label_number (Below 2) (decimal m) ≡ Some m
 
+-- a mark is one of two labels
 pub mark-is : (m : ℕ) → m < 2 → IsMark m
 mark-is m h = record {
   name = decimal-name m (omega (arith, h));
@@ -60,6 +62,7 @@ pub record IsWeightWord (w : ℕ) : Type 0 where
   pub read : weighed Integers (reading_of (weight_text w)) ≡ Ok (weight.Fraction fraction)
   pub divides : fraction.q ∣ 8
 
+-- a small weight is read as such
 pub weight-is : (w : ℕ) → w < 7 → IsWeightWord w
 unfolding reading_of lowest_terms gcd_of digits
 weight-is zero h = record {
@@ -140,6 +143,7 @@ no_inj b bs other e =
     let same : (105 == 105) ≡ false = sym (ap (λ n. n == 105) first) ∙ other in
     true≢false same
 
+-- eighths are read as such
 pub eighths-are : (j : ℕ) → j < 7 → AreEighths (1 + j)
 unfolding reading_of lowest_terms gcd_of digits
 eighths-are zero h = record {
@@ -249,6 +253,7 @@ more_short (t ∷ texts) all =
     let others : List ℕ = flat_map (λ text. codes ", " ++ text) texts in
     omega (arith, rest, all.0, length-append (codes ", " ++ t) others)
 
+-- a list of short texts is short
 pub listed-short : (texts : List (List ℕ)) → AreShort texts
     → length (listed texts) ≤ 14 * length texts
 listed-short [] all = omega arith

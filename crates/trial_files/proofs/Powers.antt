@@ -42,6 +42,7 @@ filled_first labels f slots w k u v es named free read =
     (found (f u) (λ v. filled labels f (slice_set slots k (Some v)) es))) free
     ∙ ap (λ r. found r (λ v. filled labels f (slice_set slots k (Some v)) es)) read
 
+-- a power of two letters is read from its two entries
 pub power-reads : (f : Fit) (a b : List ℕ) (u w : Tree) (x y : Fitted)
     → label_number two_letters a ≡ Some 0 → label_number two_letters b ≡ Some 1
     → f u ≡ Ok x → f w ≡ Ok y

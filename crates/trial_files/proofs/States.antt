@@ -15,15 +15,18 @@ use Rattle.trial_files.proofs.Words.{state-reads}
 
 -- ---- sums, where there is no distribution
 
+-- what passes always passes for all of a list
 pub pass_all : (f : Check) → ((v : Value) → f v ≡ true) → (vs : List Value) → list_all f vs ≡ true
 pass_all f h [] = refl
 pass_all f h (v ∷ vs) = (λ i. h v i && pass_all f h vs i)
 
+-- what passes always passes for all entries
 pub pass_entries : (f : Check) → ((v : Value) → f v ≡ true) → (es : List (Value × ℤ))
     → entries_hold f es ≡ true
 pass_entries f h [] = refl
 pass_entries f h (e ∷ es) = (λ i. h e.0 i && pass_entries f h es i)
 
+-- two checks that pass always pass in both places
 pub pass_two : (f g : Check) → ((v : Value) → f v ≡ true) → ((v : Value) → g v ≡ true)
     → (vs : List Value) → each_holds (f ∷ g ∷ []) vs ≡ true
 pass_two f g hf hg [] = refl
@@ -32,15 +35,18 @@ pass_two f g hf hg (v ∷ w ∷ vs) = (λ i. hf v i && (hg w i && true))
 
 -- ---- states, of which there are so many
 
+-- the name of a state is read as that state
 pub state_reads : (size : ℕ) → size ≤ 200000 → (i : ℕ) → i < size
     → state_fit (names_from 0 size) (tree.Word (name_text i)) ≡ Ok (fitted.State i)
 state_reads size few i h =
     state-reads (names_from 0 size) (name_text i) i (name-placed size i few h)
 
+-- the name of a state is the text of its tree
 pub state_text : (size : ℕ) → size ≤ 200000 → (n i : ℕ) → i < size
     → IsTextOf n (name_text i) (tree.Word (name_text i))
 state_text size few n i h = word-text n (name_text i) (name-is i (omega (arith, h, few)))
 
+-- the name of a state is short
 pub state_short : (size : ℕ) → size ≤ 200000 → (i : ℕ) → i < size → length (name_text i) ≤ 7
 state_short size few i h = name-short i (omega (arith, h, few))
 
@@ -48,5 +54,6 @@ state_short size few i h = name-short i (omega (arith, h, few))
 abbrev pub IsMove : ℕ → ℕ × ℕ → Type 0
 IsMove size p = (p.0 < 3) × (p.1 < size)
 
+-- a state with a small weight
 abbrev pub IsSum : ℕ → ℕ × ℕ → Type 0
 IsSum size p = (p.0 < size) × (p.1 < 7)

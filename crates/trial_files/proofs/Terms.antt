@@ -20,6 +20,7 @@ use Rattle.trial_texts.specs.Text.{functor_text}
 abbrev pub three_letters : LabelSet
 three_letters = Listed (codes "a" ∷ codes "b" ∷ codes "c" ∷ [])
 
+-- the labels a and b
 abbrev pub two_letters : LabelSet
 two_letters = Listed (codes "a" ∷ codes "b" ∷ [])
 
@@ -41,6 +42,7 @@ part_of Dfa = marked_with (over (Power two_letters) (leaf_state ∷ []))
 abbrev pub term_of : TrialKind → Nodes
 term_of kind = placed 0 (part_of kind).0
 
+-- the functor of a trial is spelled by its text
 pub functor-spelled : (kind : TrialKind) → SpellsTerm (functor_text kind) (term_of kind)
 unfolding items_from words_at powers_from prefix_at power_at product_at sum_at inside_at part_at
     signs_at
@@ -56,6 +58,7 @@ functor-plain Chain = refl
 functor-plain Sums = refl
 functor-plain Dfa = refl
 
+-- the functor line of a trial is not skipped
 pub functor-unskipped : (kind : TrialKind) → is_skipped (functor_text kind) ≡ false
 functor-unskipped Lts = refl
 functor-unskipped Chain = refl

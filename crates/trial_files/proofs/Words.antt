@@ -29,6 +29,7 @@ use Rattle.fitting.proofs.FitSound.{over_out}
 
 -- ---- words
 
+-- a word of a state is read as it
 pub state-reads : (names : List (List ℕ)) (w : List ℕ) (i : ℕ) → place_of w names ≡ Some i
     → state_fit names (tree.Word w) ≡ Ok (fitted.State i)
 state-reads names w i e =
@@ -36,6 +37,7 @@ state-reads names w i e =
     (λ w. needs (place_of w names) UnknownState (λ i. Ok (fitted.State i)))) (word_word w)
     ∙ ap (λ o. needs o UnknownState (λ i. Ok (fitted.State i))) e
 
+-- a word of a label is read as it
 pub label-reads : (labels : LabelSet) (w : List ℕ) (k : ℕ) → label_number labels w ≡ Some k
     → label_fit labels (tree.Word w) ≡ Ok (fitted.Label k)
 label-reads labels w k e =
@@ -45,6 +47,7 @@ label-reads labels w k e =
 
 -- ---- pairs
 
+-- a pair is read part by part
 pub pair-reads : (f g : Fit) (u w : Tree) (x y : Fitted) → f u ≡ Ok x → g w ≡ Ok y
     → product_fit (f ∷ g ∷ []) (tree.Tuple (u ∷ w ∷ [])) ≡ Ok (fitted.Tuple (x ∷ y ∷ []))
 pair-reads f g u w x y first second =
@@ -56,6 +59,7 @@ pair-reads f g u w x y first second =
 
 -- ---- sets
 
+-- an element without a weight
 abbrev pub alone : Tree → Entry
 alone u = entry u None
 
@@ -78,6 +82,7 @@ each_alone f (u ∷ us) (x ∷ xs) all =
     (λ i. found ((ap f (alone_held u) ∙ all.0) i)
     (λ y. made (λ ys. y ∷ ys) (each_alone f us xs all.1 i)))
 
+-- a set is read member by member
 pub set-reads : (f : Fit) (us : List Tree) (xs : List Fitted) → Denote f us xs
     → set_fit (f ∷ []) (tree.Braces (map alone us)) ≡ Ok (fitted.Set xs)
 set-reads f us xs all =
@@ -122,6 +127,7 @@ all_weighted m h (p ∷ ps) =
     and_from (has_weight m (weighted p)) (list_all (has_weight m) (map weighted ps))
     (h (weighted p) u (paired_weight p.0 u)) (all_weighted m h ps)
 
+-- weights are read entry by entry
 pub weights-read : (m : Node)
     → ((e : Entry) (u : Tree) → weight_tree e ≡ Some u → has_weight m e ≡ true) → (f : Fit)
     (ps : List (Tree × List ℕ)) (xs : List (Fitted × Weight)) → AllZip (DenotesWeight m f) ps xs
@@ -132,10 +138,12 @@ weights-read m h f ps xs all =
     ∙ (λ i. demands (all_weighted m h ps i) WrongShape
     (made fitted.Weights (each_weighted m f ps xs all i)))
 
+-- an element of a distribution has a weight
 pub distribution-weighs : (e : Entry) (u : Tree) → weight_tree e ≡ Some u
     → has_weight Distribution e ≡ true
 distribution-weighs e u h = ap is_some h
 
+-- an element of whole weights has a weight
 pub integers-weigh : (e : Entry) (u : Tree) → weight_tree e ≡ Some u → has_weight Integers e ≡ true
 integers-weigh e u h = ap is_some h
 
@@ -145,12 +153,14 @@ integers-weigh e u h = ap is_some h
 abbrev pub IsFine : ℕ → Fitted → Type 0
 IsFine l f = (over_bound f ≡ false) × DividesAll l f
 
+-- a state is within all bounds
 pub state-fine : (l i : ℕ) → IsFine l (fitted.State i)
 state-fine l i = (
   over_out (fitted.State i) (Fitted-F.State i) (shown.outs-State i),
   divides_of l (fitted.State i) (Fitted-F.State i) (shown.outs-State i) tt,
 )
 
+-- a label is within all bounds
 pub label-fine : (l k : ℕ) → IsFine l (fitted.Label k)
 label-fine l k = (
   over_out (fitted.Label k) (Fitted-F.Label k) (shown.outs-Label k),
@@ -167,6 +177,7 @@ all_dividing : (l : ℕ) (fs : List Fitted) → AllByRecursion (IsFine l) fs
 all_dividing l [] all = tt
 all_dividing l (f ∷ fs) all = (all.0.1, all_dividing l fs all.1)
 
+-- a tuple is within the bounds where its parts are
 pub tuple-fine : (l : ℕ) (fs : List Fitted) → AllByRecursion (IsFine l) fs
     → IsFine l (fitted.Tuple fs)
 tuple-fine l fs all = (
@@ -175,6 +186,7 @@ tuple-fine l fs all = (
       (all_divide l fs (all_dividing l fs all)),
 )
 
+-- a set is within the bounds where its members are
 pub set-fine : (l : ℕ) (fs : List Fitted) → AllByRecursion (IsFine l) fs → IsFine l (fitted.Set fs)
 set-fine l fs all = (
   over_out (fitted.Set fs) (Fitted-F.Set fs) (shown.outs-Set fs) ∙ none_over l fs all,
@@ -199,6 +211,7 @@ entries_dividing : (l : ℕ) (es : List (Fitted × Weight)) → AllByRecursion (
 entries_dividing l [] all = tt
 entries_dividing l (e ∷ es) all = ((all.0.0.1, all.0.2), entries_dividing l es all.1)
 
+-- weights are within the bounds where their entries are
 pub weights-fine : (l : ℕ) (es : List (Fitted × Weight)) → AllByRecursion (IsFineEntry l) es
     → IsFine l (fitted.Weights es)
 weights-fine l es all = (

@@ -32,6 +32,7 @@ between n = if nat_lt 0 n then codes ", " else []
 more_left : (n : ℕ) → nat_lt 0 (suc n) ≡ true
 more_left n = lt-ltb 0 (suc n) (omega arith)
 
+-- nothing taken away changes nothing
 pub none-less : (n : ℕ) → n - 0 ≡ n
 none-less n = omega arith
 
@@ -81,14 +82,17 @@ two-less n i x y h e =
     ap (number (2 * (n - (i + 1)))) e
     ∙ ap (λ j. number j x) (sym (ap (λ j. 2 * j) (left n i h) ∙ twice (n - (i + 1))))
 
+-- with no draw left the seed stays
 pub draws-done : (n i x z : ℕ) → n ≤ i → number (2 * (n - i)) x ≡ z → x ≡ z
 draws-done n i x z h e = ap (λ j. number (2 * j) x) (sym (none_left n i h)) ∙ e
 
 -- the lines that are left
 module _ (kind : TrialKind) (size : ℕ) where
+  -- the text of the lines that are left
   abbrev pub lines_left : ℕ → ℕ → List ℕ
   lines_left i x = lines_text i (structures kind size (size - i) x)
 
+  -- one line more of what is left
   pub line-more : (i x y : ℕ) (text one : List ℕ) → i < size
       → y ≡ number (draws_of kind x) x → one ≡ text ++ line_text i (structure_of kind size x)
       → one ++ lines_left (i + 1) y ≡ text ++ lines_left i x

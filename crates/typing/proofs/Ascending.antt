@@ -10,11 +10,13 @@ use Rattle.typing.specs.declared.value.Value.{Value}
 use Rattle.typing.specs.Order.{Compare, ascends}
 use Rattle.typing.proofs.Coarser.{all_where}
 
+-- the test of less holds of less alone
 pub lt_is : (r : Ordering) → is_lt r ≡ true → r ≡ Less
 lt_is Less h = refl
 lt_is Equal h = cc
 lt_is Greater h = cc
 
+-- no two are both less and equal
 pub less_equal : (r : Ordering) → r ≡ Less → r ≡ Equal → ⊥
 less_equal r p q = cc
 
@@ -29,6 +31,7 @@ module _ (c : Compare) (o : IsTotalOrder c) where
       (all_where (λ w. is_lt (c v w)) (λ w. is_lt (c u w)) vs (below_all v vs p.1)
       (λ w k. ap is_lt (o.trans u v w (lt_is (c u v) p.0) (lt_is (c v w) k))))
 
+  -- what ascends, ascends behind its first
   pub rest_ascends : (u : Value) (us : List Value) → ascends c (u ∷ us) ≡ true
       → ascends c us ≡ true
   rest_ascends u [] h = refl

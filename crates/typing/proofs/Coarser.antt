@@ -26,6 +26,7 @@ use Rattle.typing.proofs.Weights.{coarser_sums}
 abbrev moved : List ℕ → List (Value × ℤ) → List (Value × ℤ)
 moved b ws = map (λ w. (relabelled b w.0, w.1)) ws
 
+-- a weight under relabelling is that of the test that relabels
 pub weight_of-moved : (e : Test) (b : List ℕ) (ws : List (Value × ℤ)) (a : Value)
     → weight_of e (moved b ws) (relabelled b a) ≡ weight_of
     (λ x y. e (relabelled b x) (relabelled b y)) ws a
@@ -38,6 +39,7 @@ map-append' : {X Y : Type 0} (f : X → Y) (xs ys : List X) → map f xs ++ map 
 map-append' f [] ys = refl
 map-append' f (x ∷ xs) ys = ap (λ l. f x ∷ l) (map-append' f xs ys)
 
+-- what follows from a test of all holds of all
 pub all_where : {X : Type 0} (d p : X → Bool) (xs : List X) → list_all d xs ≡ true
     → ((x : X) → d x ≡ true → p x ≡ true) → list_all p xs ≡ true
 all_where d p [] h k = refl

@@ -17,6 +17,7 @@ use Rattle.typing.proofs.Tests.{no_test-equivalence, test_at-equivalence, each_p
 
 -- a choice, and what is compared there
 module _ (f : ℕ → Test) (is : (k : ℕ) → IsEquivalence (f k)) where
+  -- a choice may be compared in either order
   pub chosen_symm : (i j : ℕ) (x y : Value) → ((i == j) && f i x y) ≡ ((j == i) && f j y x)
   chosen_symm i j x y = by (i == j) refl
     where
@@ -26,6 +27,7 @@ module _ (f : ℕ → Test) (is : (k : ℕ) → IsEquivalence (f k)) where
       by false e = ap (λ b. b && f i x y) e
           ∙ sym (ap (λ b. b && f j y x) (nat_eq_equiv.symm j i ∙ e))
 
+  -- choices that are equal are alike to a third
   pub chosen_congr : (i j k : ℕ) (x y z : Value) → ((i == j) && f i x y) ≡ true
       → ((i == k) && f i x z) ≡ ((j == k) && f j y z)
   chosen_congr i j k x y z h =
@@ -44,6 +46,7 @@ sum_equivalence es h = record {
       (index w) (inner u) (inner v) (inner w) e;
 }
 
+-- a level over equivalences is an equivalence
 pub eq_step-equivalence : (m : Node) (es : List Test) → AllByRecursion IsEquivalence es
     → IsEquivalence (eq_step m es)
 eq_step-equivalence State es h = on_equiv state (options_equiv nat_eq_equiv)
@@ -63,6 +66,7 @@ eq_step-equivalence Integers es h = on_equiv entries (same_weights-equivalence (
 eq_step-equivalence Rationals es h = on_equiv entries (same_weights-equivalence (test_at es 0)
     (test_at-equivalence es 0 h))
 
+-- equality at a node is an equivalence
 pub eq-equivalence : (t : Nodes) (p : ℕ) → IsEquivalence (are_equal t p)
 eq-equivalence t p = fold-all IsEquivalence no_test eq_step no_test-equivalence eq_step-equivalence
     t p

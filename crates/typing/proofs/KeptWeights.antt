@@ -82,12 +82,15 @@ module _ {A B C D E : Type 0} (R : A → B → C → D → E → Type 0)
 
 -- a value is within a bound where each of its parts is
 module _ (n : ℕ) where
+  -- whether a layer is within the bound
   abbrev pub layer_within : Value-F Value → Bool
   layer_within x = within_step n (map-Value Value Bool (is_within n) x)
 
+  -- the bound, layer by layer
   pub within_out : (v : Value) → is_within n v ≡ layer_within (out-Value v)
   within_out v = fold_out-Value Bool (within_step n) v
 
+  -- the parts of a value are within the bound
   pub parts_within : (v : Value) → is_within n v ≡ true → list_all (is_within n) (parts v) ≡ true
   parts_within v h = by (out-Value v) (sym (within_out v) ∙ h)
     where
@@ -99,6 +102,7 @@ module _ (n : ℕ) where
       by (Value-F.Inj k v) h = refl
       by (Value-F.Weights es) h = refl
 
+  -- the value in an injection is within the bound
   pub inner_within : (v : Value) → is_within n v ≡ true → is_within n (inner v) ≡ true
   inner_within v h = by (out-Value v) (sym (within_out v) ∙ h)
     where
@@ -120,6 +124,7 @@ module _ (n : ℕ) where
       (tested es) ∙ (λ i. unsigned_abs e.1 + tested_sum es i)
       ∙ sym (sum_by-cons (λ (w : Value × ℤ). unsigned_abs w.1) e es)
 
+  -- the elements and the weights of what is within a bound are
   pub entries_within : (v : Value) → is_within n v ≡ true
       → (list_all (λ e. is_within n e.0) (entries v) ≡ true)
       × (nat_le (absolute_sum (entries v)) n ≡ true)
@@ -149,19 +154,23 @@ module _ (n : ℕ) where
       → is_within n v ≡ true
   at_level v x o h = within_out v ∙ ap layer_within o ∙ h
 
+  -- a tuple is within the bound where its parts are
   pub within_tuple : (v : Value) (vs : List Value) → out-Value v ≡ Value-F.Tuple vs
       → list_all (is_within n) vs ≡ true → is_within n v ≡ true
   within_tuple v vs o h = at_level v (Value-F.Tuple vs) o
       (list_all-map (λ b. b) (is_within n) vs ∙ h)
 
+  -- a set is within the bound where its members are
   pub within_set : (v : Value) (vs : List Value) → out-Value v ≡ Value-F.Set vs
       → list_all (is_within n) vs ≡ true → is_within n v ≡ true
   within_set v vs o h = at_level v (Value-F.Set vs) o (list_all-map (λ b. b) (is_within n) vs ∙ h)
 
+  -- an injection is within the bound where its value is
   pub within_inner : (v : Value) (k : ℕ) (w : Value) → out-Value v ≡ Value-F.Inj k w
       → is_within n w ≡ true → is_within n v ≡ true
   within_inner v k w o h = at_level v (Value-F.Inj k w) o h
 
+  -- weights are within the bound where elements and sum are
   pub within_entries : (v : Value) (es : List (Value × ℤ)) → out-Value v ≡ Value-F.Weights es
       → list_all (λ e. is_within n e.0) es ≡ true → nat_le (absolute_sum es) n ≡ true
       → is_within n v ≡ true

@@ -29,6 +29,7 @@ step_out b (Value-F.Inj k v) = out-roll-Value (mapped b (Value-F.Inj k v))
 step_out b (Value-F.Set vs) = out-roll-Value (mapped b (Value-F.Set vs))
 step_out b (Value-F.Weights es) = out-roll-Value (mapped b (Value-F.Weights es))
 
+-- relabelling, layer by layer
 pub out_map : (b : List ℕ) (v : Value) → out-Value (relabelled b v) ≡ mapped b (out-Value v)
 out_map b v = ap out-Value (fold_out-Value Value (relabelled_step b) v) ∙ step_out b (out-Value v)
 
@@ -44,6 +45,7 @@ parts_map b v = ap parts_in (out_map b v) ∙ by (out-Value v)
     by (Value-F.Inj k v) = refl
     by (Value-F.Weights es) = refl
 
+-- relabelling keeps the index
 pub index_map : (b : List ℕ) (v : Value) → index (relabelled b v) ≡ index v
 index_map b v = ap index_in (out_map b v) ∙ by (out-Value v)
   where
@@ -55,6 +57,7 @@ index_map b v = ap index_in (out_map b v) ∙ by (out-Value v)
     by (Value-F.Inj k v) = refl
     by (Value-F.Weights es) = refl
 
+-- relabelling goes into an injection
 pub inner_map : (b : List ℕ) (v : Value) → inner (relabelled b v) ≡ relabelled b (inner v)
 inner_map b v = ap (inner_in (relabelled b v)) (out_map b v) ∙ by (out-Value v)
   where
@@ -66,6 +69,7 @@ inner_map b v = ap (inner_in (relabelled b v)) (out_map b v) ∙ by (out-Value v
     by (Value-F.Inj k w) = refl
     by (Value-F.Weights es) = refl
 
+-- relabelling keeps the weights and relabels the elements
 pub entries_map : (b : List ℕ) (v : Value)
     → entries (relabelled b v) ≡ map (λ e. (relabelled b e.0, e.1)) (entries v)
 entries_map b v = ap entries_in (out_map b v) ∙ by (out-Value v)
@@ -79,6 +83,7 @@ entries_map b v = ap entries_in (out_map b v) ∙ by (out-Value v)
     by (Value-F.Inj k v) = refl
     by (Value-F.Weights es) = refl
 
+-- relabelling keeps labels
 pub label_map : (b : List ℕ) (v : Value) → label (relabelled b v) ≡ label v
 label_map b v = ap label_in (out_map b v) ∙ by (out-Value v)
   where
@@ -90,6 +95,7 @@ label_map b v = ap label_in (out_map b v) ∙ by (out-Value v)
     by (Value-F.Inj k v) = refl
     by (Value-F.Weights es) = refl
 
+-- a state gets its label
 pub state_map : (b : List ℕ) (v : Value)
     → state (relabelled b v) ≡ option_map (slice_index b) (state v)
 state_map b v = ap state_in (out_map b v) ∙ by (out-Value v)
@@ -106,9 +112,11 @@ state_map b v = ap state_in (out_map b v) ∙ by (out-Value v)
 abbrev pub layer_below : ℕ → Value-F Value → Bool
 layer_below n x = below_step n (map-Value Value Bool (states_below n) x)
 
+-- the bound on states, layer by layer
 pub below_out : (n : ℕ) (v : Value) → states_below n v ≡ layer_below n (out-Value v)
 below_out n v = fold_out-Value Bool (below_step n) v
 
+-- the states in the parts are below the bound
 pub parts_below : (n : ℕ) (v : Value) → states_below n v ≡ true
     → list_all (states_below n) (parts v) ≡ true
 parts_below n v h = by (out-Value v) (sym (below_out n v) ∙ h)
@@ -122,6 +130,7 @@ parts_below n v h = by (out-Value v) (sym (below_out n v) ∙ h)
     by (Value-F.Inj k v) h = refl
     by (Value-F.Weights es) h = refl
 
+-- the states in an injection's value are below the bound
 pub inner_below : (n : ℕ) (v : Value) → states_below n v ≡ true → states_below n (inner v) ≡ true
 inner_below n v h = by (out-Value v) (sym (below_out n v) ∙ h)
   where
@@ -133,6 +142,7 @@ inner_below n v h = by (out-Value v) (sym (below_out n v) ∙ h)
     by (Value-F.Inj k v) e = e
     by (Value-F.Weights es) e = h
 
+-- the states in the elements of weights are below the bound
 pub entries_below : (n : ℕ) (v : Value) → states_below n v ≡ true
     → list_all (λ e. states_below n e.0) (entries v) ≡ true
 entries_below n v h = by (out-Value v) (sym (below_out n v) ∙ h)
@@ -147,6 +157,7 @@ entries_below n v h = by (out-Value v) (sym (below_out n v) ∙ h)
     by (Value-F.Weights es) h = sym (list_all-map (λ (e : Bool × ℤ). e.0)
         (λ (e : Value × ℤ). (states_below n e.0, e.1)) es) ∙ h
 
+-- a state is below the bound
 pub state_within : (n : ℕ) (v : Value) → states_below n v ≡ true → (i : ℕ) → state v ≡ Some i
     → i < n
 state_within n v h = by (out-Value v) (sym (below_out n v) ∙ h)

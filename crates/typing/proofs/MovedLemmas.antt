@@ -10,16 +10,19 @@ use Rattle.typing.specs.Values.{parts, parts_in, entries_in, relabelled, states_
 use Rattle.typing.proofs.MapLaws.{parts_below, entries_below, mapped, out_map}
 use Rattle.typing.proofs.StableLaws.{each_of}
 
+-- the states in the parts of a tuple are below the bound
 pub tuple_below : (n : ℕ) (v : Value) (vs : List Value) → v ≡ value.Tuple vs
     → states_below n v ≡ true → list_all (states_below n) vs ≡ true
 tuple_below n v vs e h = subst (λ (us : List Value). list_all (states_below n) us ≡ true)
     (ap parts e ∙ ap parts_in (outs-Tuple vs)) (parts_below n v h)
 
+-- the states in the members of a set are below the bound
 pub set_below : (n : ℕ) (v : Value) (vs : List Value) → v ≡ value.Set vs → states_below n v ≡ true
     → list_all (states_below n) vs ≡ true
 set_below n v vs e h = subst (λ (us : List Value). list_all (states_below n) us ≡ true) (ap parts e
     ∙ ap parts_in (outs-Set vs)) (parts_below n v h)
 
+-- the states in an entry's element are below the bound
 pub entry_below : (n : ℕ) (v : Value) (es : List (Value × ℤ)) (i : ℕ) (e : Value × ℤ)
     → out-Value v ≡ Value-F.Weights es → states_below n v ≡ true → i < length es → e ≡ get_or es i e
     → states_below n e.0 ≡ true

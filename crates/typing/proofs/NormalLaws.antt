@@ -37,6 +37,7 @@ pub record IsCanonical (x : Check) (f : Form) (e : Test) : Type 0 where
       → e u v ≡ true → u ≡ v
   pub tie : (u v : Value) → x u ≡ true → x v ≡ true → f.compare u v ≡ Equal → u ≡ v
 
+-- the form past the last child is canonical
 pub none_canonical : IsCanonical no_check no_form no_test
 none_canonical = record {
   ordered = no_form-ordered;
@@ -47,6 +48,7 @@ none_canonical = record {
       (true≢false (sym hu));
 }
 
+-- forms that are canonical at each child are so at the k-th
 pub at_canonical : (xs : List Check) (fs : List Form) (es : List Test) (k : ℕ)
     → Zip3 IsCanonical xs fs es → IsCanonical (check_at xs k) (form_at fs k) (test_at es k)
 at_canonical [] [] [] k h = none_canonical
@@ -115,6 +117,7 @@ naturals_shape fs (Value-F.Inj k v) h = absurd (true≢false (sym h))
 naturals_shape fs (Value-F.Set vs) h = absurd (true≢false (sym h))
 naturals_shape fs (Value-F.Weights es) h = absurd (true≢false (sym h))
 
+-- what fits a powerset is a set of members that fit
 pub set_shape : (fs : List Check) (x : Value-F Value) → fits_level Powerset fs x ≡ true
     → (x ≡ Value-F.Set (parts_in x)) × (list_all (check_at fs 0) (parts_in x) ≡ true)
 set_shape fs (Value-F.State i) h = absurd (true≢false (sym h))
@@ -244,6 +247,7 @@ places_tie (x ∷ xs) (f ∷ fs) (e ∷ es) (u ∷ us) (v ∷ vs) r hu hv h =
     let s = tied (f.compare u v) (each_cmp fs us vs) h in
     λ i. r.0.tie u v a.0 b.0 s.0 i ∷ places_tie xs fs es us vs r.1 a.1 b.1 s.1 i
 
+-- what fits a product is a tuple whose parts fit in their places
 pub product_shape : (fs : List Check) (x : Value-F Value) → fits_level Product fs x ≡ true
     → (x ≡ Value-F.Tuple (parts_in x)) × (each_fits fs (parts_in x) ≡ true)
 product_shape fs (Value-F.State i) h = absurd (true≢false (sym h))
@@ -253,6 +257,7 @@ product_shape fs (Value-F.Inj k v) h = absurd (true≢false (sym h))
 product_shape fs (Value-F.Set vs) h = absurd (true≢false (sym h))
 product_shape fs (Value-F.Weights es) h = absurd (true≢false (sym h))
 
+-- what fits a power is a tuple of parts that fit its child
 pub power_shape : (labels : _) (fs : List Check) (x : Value-F Value)
     → fits_level (Power labels) fs x ≡ true
     → (x ≡ Value-F.Tuple (parts_in x)) × (list_all (check_at fs 0) (parts_in x) ≡ true)
@@ -263,6 +268,7 @@ power_shape labels fs (Value-F.Inj k v) h = absurd (true≢false (sym h))
 power_shape labels fs (Value-F.Set vs) h = absurd (true≢false (sym h))
 power_shape labels fs (Value-F.Weights es) h = absurd (true≢false (sym h))
 
+-- what fits a sum is an injection whose value fits its child
 pub sum_shape : (fs : List Check) (other : Value) (x : Value-F Value) → fits_level Sum fs x ≡ true
     → (x ≡ Value-F.Inj (index_in x) (inner_in other x))
     × (check_at fs (index_in x) (inner_in other x) ≡ true)
@@ -278,6 +284,7 @@ abbrev pub weight_check : List Check → Value-F Value → Bool
 weight_check fs (Value-F.Weights es) = list_all (λ e. check_at fs 0 e.0) es
 weight_check fs _ = false
 
+-- what fits weights is a list of entries whose elements fit
 pub weight_shape : (fs : List Check) (x : Value-F Value) → weight_check fs x ≡ true
     → (x ≡ Value-F.Weights (entries_in x)) × (list_all (λ e. check_at fs 0 e.0) (entries_in x)
     ≡ true)
@@ -288,9 +295,11 @@ weight_shape fs (Value-F.Inj k v) h = absurd (true≢false (sym h))
 weight_shape fs (Value-F.Set vs) h = absurd (true≢false (sym h))
 weight_shape fs (Value-F.Weights es) h = (refl, h)
 
+-- the node is of a kind with weights: its structures are lists of entries
 abbrev pub IsWeighted : Node → Type 0
 IsWeighted m = (fs : List Check) (x : Value-F Value) → fits_level m fs x ≡ weight_check fs x
 
+-- bags are of a kind with weights
 pub bag_weighted : IsWeighted Bag
 bag_weighted fs (Value-F.State i) = refl
 bag_weighted fs (Value-F.Label n) = refl
@@ -299,6 +308,7 @@ bag_weighted fs (Value-F.Inj k v) = refl
 bag_weighted fs (Value-F.Set vs) = refl
 bag_weighted fs (Value-F.Weights es) = refl
 
+-- distributions are of a kind with weights
 pub distribution_weighted : IsWeighted Distribution
 distribution_weighted fs (Value-F.State i) = refl
 distribution_weighted fs (Value-F.Label n) = refl
@@ -307,6 +317,7 @@ distribution_weighted fs (Value-F.Inj k v) = refl
 distribution_weighted fs (Value-F.Set vs) = refl
 distribution_weighted fs (Value-F.Weights es) = refl
 
+-- whole weights are of a kind with weights
 pub integers_weighted : IsWeighted Integers
 integers_weighted fs (Value-F.State i) = refl
 integers_weighted fs (Value-F.Label n) = refl
@@ -315,6 +326,7 @@ integers_weighted fs (Value-F.Inj k v) = refl
 integers_weighted fs (Value-F.Set vs) = refl
 integers_weighted fs (Value-F.Weights es) = refl
 
+-- fractional weights are of a kind with weights
 pub rationals_weighted : IsWeighted Rationals
 rationals_weighted fs (Value-F.State i) = refl
 rationals_weighted fs (Value-F.Label n) = refl
@@ -432,6 +444,7 @@ module _ (xs : List Check) (fs : List Form) (es : List Test) (r : Zip3 IsCanonic
   step_tie Integers u v hu hv h = weights_tie Integers integers_weighted u v hu hv h
   step_tie Rationals u v hu hv h = weights_tie Rationals rationals_weighted u v hu hv h
 
+-- a level over canonical forms is canonical
 pub step_canonical : (m : Node) (xs : List Check) (fs : List Form) (es : List Test)
     → Zip3 IsCanonical xs fs es → IsCanonical (fits_step m xs) (form_step m fs) (eq_step m es)
 step_canonical m xs fs es r = record {
@@ -441,10 +454,12 @@ step_canonical m xs fs es r = record {
   tie = step_tie xs fs es r m;
 }
 
+-- the form of a node is canonical
 pub node_canonical : (t : Nodes) (p : ℕ) → IsCanonical (fits t p) (form t p) (are_equal t p)
 node_canonical t p = fold-related3 IsCanonical no_check no_form no_test fits_step form_step eq_step
     none_canonical step_canonical t p
 
+-- the forms of children are canonical
 pub children_canonical : (t : Nodes) (qs : List ℕ)
     → Zip3 IsCanonical (map (fits t) qs) (map (form t) qs) (map (are_equal t) qs)
 children_canonical t [] = tt

@@ -13,15 +13,18 @@ abbrev pub count_from : ℕ → ℕ → List ℕ
 count_from k zero = []
 count_from k (suc m) = k ∷ count_from (suc k) m
 
+-- the i-th number that is counted up
 pub count_at : (k m i : ℕ) → i < m → slice_index (count_from k m) i ≡ k + i
 count_at k zero i h = absurd (omega arith)
 count_at k (suc m) zero h = omega arith
 count_at k (suc m) (suc i) h = count_at (suc k) m i (omega arith) ∙ omega arith
 
+-- the bound on states of a layer that is rolled up
 pub at_level : (n : ℕ) (x : Value-F Value) → states_below n (roll-Value x) ≡ true
     → layer_below n x ≡ true
 at_level n x h = ap (layer_below n) (sym (out-roll-Value x)) ∙ sym (below_out n (roll-Value x)) ∙ h
 
+-- relabelling a layer that is rolled up
 pub mapped_roll : (b : List ℕ) (x : Value-F Value)
     → out-Value (relabelled b (roll-Value x)) ≡ mapped b x
 mapped_roll b x = out_map b (roll-Value x) ∙ ap (mapped b) (out-roll-Value x)
@@ -30,12 +33,15 @@ mapped_roll b x = out_map b (roll-Value x) ∙ ap (mapped b) (out-roll-Value x)
 abbrev pub onto : List ℕ → List (Value × ℤ) → List (Value × ℤ)
 onto b ws = map (λ e. (relabelled b e.0, e.1)) ws
 
+-- each entry with whether its element passes
 abbrev pub tested : ℕ → List (Value × ℤ) → List (Bool × ℤ)
 tested n ws = map (λ e. (states_below n e.0, e.1)) ws
 
+-- whether each entry passes
 abbrev pub all_pass : List (Bool × ℤ) → Bool
 all_pass ws = list_all (λ c. c.0) ws
 
+-- entries without their proofs
 abbrev pub without : (P : Value → Type 0) → List (((v : Value) × P v) × ℤ) → List (Value × ℤ)
 without P ys = map (λ e. (e.0.0, e.1)) ys
 
@@ -70,6 +76,7 @@ module _ (n : ℕ) (f : List ℕ) (itself : (i : ℕ) → i < n → slice_index 
   kept_level (Value-F.Set ys) h = ap Value-F.Set (kept_list ys h)
   kept_level (Value-F.Weights ys) h = ap Value-F.Weights (kept_entries ys h)
 
+  -- a value whose states get their own numbers stays
   pub kept : (v : Value) → states_below n v ≡ true → relabelled f v ≡ v
   kept = ind-Value IsKept (λ x y is h.
       same_value (relabelled f (roll-Value x)) (roll-Value x)

@@ -19,6 +19,7 @@ use Rattle.typing.proofs.Canonical.{all_both}
 abbrev layer_bounded : Value-F Value → Bool
 layer_bounded x = within_step (2 ^ 126) (map-Value Value Bool is_bounded x)
 
+-- bounds, layer by layer
 pub bounded_out : (v : Value) → is_bounded v ≡ layer_bounded (out-Value v)
 bounded_out v = fold_out-Value Bool (within_step (2 ^ 126)) v
 
@@ -27,9 +28,11 @@ pub record IsReadyLevel (n : ℕ) (x : Value-F Value) : Type 0 where
   pub below : layer_below n x ≡ true
   pub bounded : layer_bounded x ≡ true
 
+-- what is ready passes the check
 pub ready_check : (n : ℕ) (x : Check) (v : Value) → is_ready n x v ≡ true → x v ≡ true
 ready_check n x v h = (and_parts (x v) (states_below n v && is_bounded v) h).0
 
+-- a layer of what is ready
 pub ready_level : (n : ℕ) (x : Check) (v : Value) (y : Value-F Value) → out-Value v ≡ y
     → is_ready n x v ≡ true → IsReadyLevel n y
 ready_level n x v y o h =
@@ -41,6 +44,7 @@ ready_level n x v y o h =
       bounded = ap layer_bounded (sym o) ∙ sym (bounded_out v) ∙ p.1;
     }
 
+-- what fits, within the bounds, is ready
 pub ready_from : (n : ℕ) (x : Check) (v : Value) → x v ≡ true → states_below n v ≡ true
     → is_bounded v ≡ true → is_ready n x v ≡ true
 ready_from n x v a b c = and_from (x v) (states_below n v && is_bounded v) a
@@ -68,6 +72,7 @@ places_ready n (x ∷ xs) (v ∷ vs) a b c =
     (places_ready n xs vs p.1 q.1 r.1)
 
 module _ (n : ℕ) (xs : List Check) where
+  -- the members of a set are ready
   pub set_ready : (m : Node) (vs : List Value) → fits_level m xs (Value-F.Set vs) ≡ true
       → IsReadyLevel n (Value-F.Set vs) → list_all (is_ready n (check_at xs 0)) vs ≡ true
   set_ready Powerset vs h r = all_ready n (check_at xs 0) vs h r.below r.bounded
@@ -82,6 +87,7 @@ module _ (n : ℕ) (xs : List Check) where
   set_ready Integers vs h r = absurd (true≢false (sym h))
   set_ready Rationals vs h r = absurd (true≢false (sym h))
 
+  -- the parts of a power are ready for its child
   pub power_ready : (m : Node) (vs : List Value) → fits_level m xs (Value-F.Tuple vs) ≡ true
       → (m ≡ Product → ⊥) → IsReadyLevel n (Value-F.Tuple vs)
       → list_all (is_ready n (check_at xs 0)) vs ≡ true
@@ -99,10 +105,12 @@ module _ (n : ℕ) (xs : List Check) where
   power_ready Integers vs h k r = absurd (true≢false (sym h))
   power_ready Rationals vs h k r = absurd (true≢false (sym h))
 
+  -- the parts of a product are ready in their places
   pub product_ready : (vs : List Value) → fits_level Product xs (Value-F.Tuple vs) ≡ true
       → IsReadyLevel n (Value-F.Tuple vs) → each_ready n xs vs ≡ true
   product_ready vs h r = places_ready n xs vs h r.below r.bounded
 
+  -- the value of an injection is ready for its child
   pub sum_ready : (m : Node) (k : ℕ) (v : Value) → fits_level m xs (Value-F.Inj k v) ≡ true
       → IsReadyLevel n (Value-F.Inj k v) → is_ready n (check_at xs k) v ≡ true
   sum_ready Sum k v h r = ready_from n (check_at xs k) v h r.below r.bounded
@@ -133,6 +141,7 @@ module _ (n : ℕ) (xs : List Check) where
       (sym (list_all-map (λ (e : Bool × ℤ). e.0) (λ (e : Value × ℤ). (is_bounded e.0, e.1)) es)
       ∙ bounded))
 
+  -- the elements of weights are ready
   pub weights_ready : (m : Node) (es : List (Value × ℤ))
       → fits_level m xs (Value-F.Weights es) ≡ true → IsReadyLevel n (Value-F.Weights es)
       → list_all (λ e. is_ready n (check_at xs 0) e.0) es ≡ true
@@ -155,6 +164,7 @@ sum_of-map f g [] = refl
 sum_of-map f g (x ∷ xs) = sum_by-cons f (g x) (map g xs) ∙ ap (λ n. f (g x) + n) (sum_of-map f g xs)
     ∙ sym (sum_by-cons (λ x. f (g x)) x xs)
 
+-- the absolute weights of what is ready have a sum within its bound
 pub weights_bound : (n : ℕ) (es : List (Value × ℤ)) → IsReadyLevel n (Value-F.Weights es)
     → sum_by (λ e. unsigned_abs e.1) es ≤ 2 ^ 126
 weights_bound n es r =
@@ -165,6 +175,7 @@ weights_bound n es r =
     subst (λ k. k ≤ 2 ^ 126) (sum_of-map (λ (e : Bool × ℤ). unsigned_abs e.1)
     (λ (e : Value × ℤ). (is_bounded e.0, e.1)) es) (leb-true _ _ h)
 
+-- lists with the same weights have the same absolute sum
 pub bound_kept : (R : Value × ℤ → Value × ℤ → Type 0) → ((v r : Value × ℤ) → R v r → r.1 ≡ v.1)
     → (vs rs : List (Value × ℤ)) → AllZip R vs rs
     → sum_by (λ e. unsigned_abs e.1) rs ≡ sum_by (λ e. unsigned_abs e.1) vs

@@ -8,6 +8,7 @@ use Rattle.std.specs.Ordering.{int_eq}
 use Rattle.std.proofs.lemmas.Bool.{and_parts, and_from}
 use Rattle.std.proofs.lemmas.Cmp.{nat_eq_equiv}
 use Rattle.std.proofs.lemmas.List.Folds.{list_all-map}
+use Rattle.std.proofs.lemmas.Slice.Zip.{AllZip-long}
 use Rattle.functor_terms.specs.declared.node.Node.{Node}
 use Rattle.functor_terms.specs.declared.node.Node.TheVariants.{State, Constant, Naturals, Product, Sum, Power, Powerset, Bag, Distribution, Integers, Rationals}
 use Rattle.functor_terms.specs.Terms.{Nodes, IsTerm, node_at, children_at}
@@ -30,6 +31,7 @@ use Rattle.functor_terms.proofs.NamesLemmas.{list_any-map}
 
 -- two lists whose elements are related
 module _ {X Y : Type 0} (R : X → Y → Type 0) where
+  -- what is related to each on the left holds of all on the right
   pub right_all : (q : Y → Bool) (xs : List X) (ys : List Y) → AllZip R xs ys
       → ((x : X) (y : Y) → R x y → q y ≡ true) → list_all q ys ≡ true
   right_all q [] [] z h = refl
@@ -44,12 +46,6 @@ module _ {X Y : Type 0} (R : X → Y → Type 0) where
   any_agrees p q [] (y ∷ ys) z h = absurd z
   any_agrees p q (x ∷ xs) [] z h = absurd z
   any_agrees p q (x ∷ xs) (y ∷ ys) z h = λ i. h x y z.0 i || any_agrees p q xs ys z.1 h i
-
-  pub same_length : (xs : List X) (ys : List Y) → AllZip R xs ys → length ys ≡ length xs
-  same_length [] [] z = refl
-  same_length [] (y ∷ ys) z = absurd z
-  same_length (x ∷ xs) [] z = absurd z
-  same_length (x ∷ xs) (y ∷ ys) z = ap suc (same_length xs ys z.1)
 
 -- the step at a node gives the node
 pub node_relabelled : (t : Nodes) → IsTerm t → (p : ℕ) → p < length t → (m : Node) → m ≡ node_at t p
@@ -134,6 +130,7 @@ module _ (b : List ℕ) where
     label_same m v n o = (λ k. label_in (outs-Label n k) == label_map b v k)
         ∙ ap (λ y. n == label_in y) o ∙ nat_eq_equiv.refl n
 
+    -- a label is relabelled to itself
     pub label_step : (m : Node) (v : Value) (n : ℕ) → out-Value v ≡ Value-F.Label n
         → fits_step m xs v ≡ true → IsStep m v (value.Label n)
     label_step (Constant labels) v n o h = record {
@@ -217,7 +214,7 @@ module _ (b : List ℕ) where
         record {
           fitting = ap (fits_level (Power labels) xs) out
               ∙ and_from (length rs == label_count labels) (list_all (check_at xs 0) rs)
-              (ap (λ n. n == label_count labels) (same_length (IsChild 0) vs rs z)
+              (ap (λ n. n == label_count labels) (AllZip-long (IsChild 0) vs rs z)
               ∙ w.0) (right_all (IsChild 0) (check_at xs 0) vs rs z (λ v r c. c.fitting));
           normal = ap (λ y. list_all (form_at fs 0).is_normal (parts_in y)) out
               ∙ right_all (IsChild 0) (form_at fs 0).is_normal vs rs z (λ v r c. c.normal);
@@ -356,6 +353,7 @@ module _ (b : List ℕ) where
                 (λ v r c. c.in_range m a)))),
           )
 
+      -- weights are relabelled by their sums
       pub weights_step : (m : Node) (v : Value) (vs us rs : List (Value × ℤ))
           → out-Value v ≡ Value-F.Weights vs → fits_step m xs v ≡ true → AllZip IsEntry vs us
           → IsTotalOf (form_at fs 0).compare the_sum us rs → IsStep m v (value.Weights rs)
@@ -451,6 +449,7 @@ module _ (b : List ℕ) where
     places_range (q ∷ qs) (v ∷ vs) (r ∷ rs) z m a = and_from (states_below m r)
         (list_all (states_below m) rs) (z.0.in_range m a) (places_range qs vs rs z.1 m a)
 
+    -- a tuple of a product is relabelled place by place
     pub product_step : (qs : List ℕ) (v : Value) (vs rs : List Value)
         → out-Value v ≡ Value-F.Tuple vs → ArePlaces qs vs rs
         → IsRelabelled (fits_step Product (map (fits t) qs)) (form_step Product (map (form t) qs))

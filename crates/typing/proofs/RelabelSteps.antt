@@ -1,5 +1,5 @@
 -- The arms of relabelling at one node.
-use Rattle.std.proofs.Common.{◌≡◌, ℕ, zero, suc, ◌<◌, ◌≤◌, ◌^◌, true, List, [], ◌∷◌, ◌++◌, map, length, get_or, Some, slice_get, append_assoc, append-nil, refl, sym, ap, ◌∙◌, subst, arith, true≢false}
+use Rattle.std.proofs.Common.{◌≡◌, ℕ, ◌<◌, ◌≤◌, ◌^◌, true, List, [], ◌∷◌, ◌++◌, map, length, Some, slice_get, append_assoc, append-nil, refl, sym, ap, ◌∙◌, subst, arith, true≢false}
 use Rattle.std.specs.Prelude.{ℤ, unsigned_abs, slice_index}
 use Rattle.std.specs.List.{list_all, sum_by, AllZip}
 use Rattle.functor_terms.specs.declared.node.Node.{Node}
@@ -38,28 +38,33 @@ module _ (t : Nodes) (is : IsTerm t) (p : ℕ) (h : p < length t) (m : Node) (e 
   level : (x : Value-F Value) → out-Value v ≡ x → IsReadyLevel (length b) x
   level x o = ready_level (length b) (fits t p) v x o ready
 
+  -- a state is relabelled to its label
   pub at_state : (i : ℕ) → v ≡ value.State i → i < length b
       → IsRelabelledAt t b p v (value.State (slice_index b i))
   at_state i q inside = node_relabelled t is p h m e b v (value.State (slice_index b i))
       (state_step b xs fs (map (are_equal t) (children_at t p)) m v i (ap out-Value q
       ∙ outs-State i) step_fits inside)
 
+  -- a label is relabelled to itself
   pub at_label : (n : ℕ) → v ≡ value.Label n → IsRelabelledAt t b p v (value.Label n)
   at_label n q = node_relabelled t is p h m e b v (value.Label n)
       (label_step b xs fs (map (are_equal t) (children_at t p)) m v n (ap out-Value q
       ∙ outs-Label n) step_fits)
 
+  -- the value of an injection is ready for its child
   pub inner_ready : (k : ℕ) (w : Value) → v ≡ value.Inj k w
       → is_ready (length b) (child_check t p k) w ≡ true
   inner_ready k w q = let o = ap out-Value q ∙ outs-Inj k w in
       sum_ready (length b) xs m k w (level_fits (Value-F.Inj k w) o) (level (Value-F.Inj k w) o)
 
+  -- a relabelled value in an injection is the relabelled injection
   pub at_inner : (k : ℕ) (w s : Value) → v ≡ value.Inj k w → IsRelabelledChild t b p k w s
       → IsRelabelledAt t b p v (value.Inj k s)
   at_inner k w s q c = node_relabelled t is p h m e b v (value.Inj k s)
       (sum_step b xs fs (map (are_equal t) (children_at t p)) m v k w s (ap out-Value q
       ∙ outs-Inj k w) step_fits c)
 
+  -- the parts of a product are ready in their places
   pub places_are_ready : (vs : List Value) → v ≡ value.Tuple vs → m ≡ Product
       → each_ready (length b) xs vs ≡ true
   places_are_ready vs q product =
@@ -67,29 +72,34 @@ module _ (t : Nodes) (is : IsTerm t) (p : ℕ) (h : p < length t) (m : Node) (e 
       product_ready (length b) xs vs (ap (λ n. fits_level n xs (Value-F.Tuple vs)) (sym product)
       ∙ level_fits (Value-F.Tuple vs) o) (level (Value-F.Tuple vs) o)
 
+  -- relabelled places of a product are the relabelled tuple
   pub at_places : (vs rs : List Value) → v ≡ value.Tuple vs → m ≡ Product
       → Zip3 (IsRelabelledAt t b) (children_at t p) vs rs → IsRelabelledAt t b p v (value.Tuple rs)
   at_places vs rs q product z = node_relabelled t is p h Product (sym product
       ∙ e) b v (value.Tuple rs) (product_step b t (children_at t p) v vs rs (ap out-Value q
       ∙ outs-Tuple vs) z)
 
+  -- the parts of a power are ready
   pub parts_ready : (vs : List Value) → v ≡ value.Tuple vs → (m ≡ Product → ⊥)
       → list_all (is_ready (length b) (child_check t p 0)) vs ≡ true
   parts_ready vs q other = let o = ap out-Value q ∙ outs-Tuple vs in
       power_ready (length b) xs m vs (level_fits (Value-F.Tuple vs) o) other
       (level (Value-F.Tuple vs) o)
 
+  -- relabelled parts of a power are the relabelled tuple
   pub at_parts : (vs rs : List Value) → v ≡ value.Tuple vs → (m ≡ Product → ⊥)
       → AllZip (IsRelabelledChild t b p 0) vs rs → IsRelabelledAt t b p v (value.Tuple rs)
   at_parts vs rs q other z = node_relabelled t is p h m e b v (value.Tuple rs)
       (power_step b xs fs (map (are_equal t) (children_at t p)) m v vs rs (ap out-Value q
       ∙ outs-Tuple vs) step_fits other z)
 
+  -- the members of a set are ready
   pub members_ready : (vs : List Value) → v ≡ value.Set vs
       → list_all (is_ready (length b) (child_check t p 0)) vs ≡ true
   members_ready vs q = let o = ap out-Value q ∙ outs-Set vs in
       set_ready (length b) xs m vs (level_fits (Value-F.Set vs) o) (level (Value-F.Set vs) o)
 
+  -- relabelled members without repeats are the relabelled set
   pub at_members : (vs us rs : List Value) → v ≡ value.Set vs
       → AllZip (IsRelabelledChild t b p 0) vs us → IsSetOf (child_form t p 0).compare us rs
       → IsRelabelledAt t b p v (value.Set rs)
@@ -99,6 +109,7 @@ module _ (t : Nodes) (is : IsTerm t) (p : ℕ) (h : p < length t) (m : Node) (e 
       (children_canonical t (children_at t p)) m v vs us rs (ap out-Value q
       ∙ outs-Set vs) step_fits z s)
 
+  -- the elements of weights are ready
   pub entries_are_ready : (vs : List (Value × ℤ)) → v ≡ value.Weights vs
       → list_all (λ w. is_ready (length b) (child_check t p 0) w.0) vs ≡ true
   entries_are_ready vs q = let o = ap out-Value q ∙ outs-Weights vs in
@@ -112,6 +123,7 @@ module _ (t : Nodes) (is : IsTerm t) (p : ℕ) (h : p < length t) (m : Node) (e 
       (weights_bound (length b) vs (level (Value-F.Weights vs) (ap out-Value q
       ∙ outs-Weights vs)))
 
+  -- relabelled entries with their sums are the relabelled weights
   pub at_entries : (vs us rs : List (Value × ℤ)) → v ≡ value.Weights vs
       → AllZip (IsRelabelledEntry t b p) vs us → IsTotalOf (child_form t p 0).compare the_sum us rs
       → IsRelabelledAt t b p v (value.Weights rs)
@@ -127,6 +139,7 @@ pub child_ready : (t : Nodes) (p k q n : ℕ) (v : Value) → slice_get (childre
 child_ready t p k q n v at h = subst (λ (x : Check). is_ready n x v ≡ true)
     (check_found t (children_at t p) k q at) h
 
+-- what is relabelled at the k-th child is relabelled at its node
 pub child_relabelled : (t : Nodes) (b : List ℕ) (p k q : ℕ) (v r : Value)
     → slice_get (children_at t p) k ≡ Some q → IsRelabelledAt t b q v r
     → IsRelabelledChild t b p k v r
@@ -136,11 +149,6 @@ child_relabelled t b p k q v r at c = record {
   equal = ap (λ (x : Test). x r (relabelled b v)) (test_found t (children_at t p) k q at) ∙ c.equal;
   in_range = c.in_range;
 }
-
-pub got : (xs : List ℕ) (k : ℕ) → k < length xs → slice_get xs k ≡ Some (get_or xs k 0)
-got [] k h = absurd (omega arith)
-got (x ∷ xs) zero h = refl
-got (x ∷ xs) (suc k) h = got xs k (omega arith)
 
 -- the step of a loop over places
 pub places_more : (R : ℕ → Value → Value → Type 0) (q : ℕ) (qs : List ℕ) (v : Value)

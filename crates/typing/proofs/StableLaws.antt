@@ -142,6 +142,7 @@ module _ (t : Nodes) (values : List Value) where
       next_settled i j u v at at' h = regrouped_same b i j u v at at'
           (under_coarser (regrouped t values b) b is.covers refines i j u v at at' h)
 
+      -- the next list of a round is made by its rule
       pub next-IsRound : IsRound (regrouped t values b)
       next-IsRound = record {
         covers = regrouped_length b;
@@ -250,6 +251,7 @@ module _ (t : Nodes) (values : List Value) where
     pub equivalent-symm : (i j : ℕ) → AreEquivalent t values i j → AreEquivalent t values j i
     equivalent-symm i j q = let (hi, hj, b, stable, same) = q in (hj, hi, b, stable, sym same)
 
+    -- equivalence is transitive
     pub equivalent-trans : (i j k : ℕ) → AreEquivalent t values i j → AreEquivalent t values j k
         → AreEquivalent t values i k
     equivalent-trans i j k p q =

@@ -27,6 +27,7 @@ all_contained test (x ∷ xs) h =
     (all_contained test xs (λ y c. let (k, below, same) = c in
     h y (suc k, omega (arith, below), same)))
 
+-- the children of a node stand behind it
 pub children_later : (t : Nodes) → IsTerm t → (p : ℕ)
     → are_later (length t) p (children_at t p) ≡ true
 children_later t is p =
@@ -34,11 +35,13 @@ children_later t is p =
     (λ q c. let w = term-later t is p q c in and_from (nat_lt p q) (nat_lt q (length t))
     (lt-ltb p q w.0) (lt-ltb q (length t) w.1))
 
+-- the first of what stands later stands later
 pub later_first : (n p q : ℕ) (qs : List ℕ) → are_later n p (q ∷ qs) ≡ true → (p < q) × (q < n)
 later_first n p q qs h = let w = and_parts (nat_lt p q) (nat_lt q n)
     (and_parts (nat_lt p q && nat_lt q n) (are_later n p qs) h).0 in
     (ltb-true p q w.0, ltb-true q n w.1)
 
+-- the others of what stands later stand later
 pub later_rest : (n p q : ℕ) (qs : List ℕ) → are_later n p (q ∷ qs) ≡ true → are_later n p qs ≡ true
 later_rest n p q qs h = (and_parts (nat_lt p q && nat_lt q n) (are_later n p qs) h).1
 
@@ -54,6 +57,7 @@ pub child_later : (t : Nodes) → IsTerm t → (p k q : ℕ) → slice_get (chil
     → (p < q) × (q < length t)
 child_later t is p k q e = later_at (length t) p (children_at t p) k q (children_later t is p) e
 
+-- no successor is zero
 pub not_zero : (k : ℕ) → (suc k == 0) ≡ false
 not_zero k = grind (arith, nat_tests)
 
@@ -69,16 +73,19 @@ form_found t (r ∷ qs) zero q e = ap (form t) (same_Some r q e)
 form_found t (r ∷ qs) (suc k) q e = form_at-suc (form t r) (map (form t) qs) k
     ∙ form_found t qs k q e
 
+-- no child, no form
 pub form_none : (t : Nodes) (qs : List ℕ) (k : ℕ) → slice_get qs k ≡ None
     → form_at (map (form t) qs) k ≡ no_form
 form_none t [] k e = refl
 form_none t (r ∷ qs) zero e = absurd (none-some r (sym e))
 form_none t (r ∷ qs) (suc k) e = form_at-suc (form t r) (map (form t) qs) k ∙ form_none t qs k e
 
+-- behind the first child the others follow
 pub check_at-suc : (f : Check) (fs : List Check) (k : ℕ) → check_at (f ∷ fs) (suc k) ≡ check_at fs k
 check_at-suc f fs k = ap (λ b. if b then f else check_at fs (suc k - 1)) (not_zero k)
     ∙ ap (check_at fs) (let e : suc k - 1 ≡ k = omega arith in e)
 
+-- the check of the k-th child is that of its node
 pub check_found : (t : Nodes) (qs : List ℕ) (k q : ℕ) → slice_get qs k ≡ Some q
     → check_at (map (fits t) qs) k ≡ fits t q
 check_found t [] k q e = absurd (none-some q e)
@@ -86,10 +93,12 @@ check_found t (r ∷ qs) zero q e = ap (fits t) (same_Some r q e)
 check_found t (r ∷ qs) (suc k) q e = check_at-suc (fits t r) (map (fits t) qs) k
     ∙ check_found t qs k q e
 
+-- behind the first child the others follow
 pub test_at-suc : (f : Test) (fs : List Test) (k : ℕ) → test_at (f ∷ fs) (suc k) ≡ test_at fs k
 test_at-suc f fs k = ap (λ b. if b then f else test_at fs (suc k - 1)) (not_zero k)
     ∙ ap (test_at fs) (let e : suc k - 1 ≡ k = omega arith in e)
 
+-- the test of the k-th child is that of its node
 pub test_found : (t : Nodes) (qs : List ℕ) (k q : ℕ) → slice_get qs k ≡ Some q
     → test_at (map (are_equal t) qs) k ≡ are_equal t q
 test_found t [] k q e = absurd (none-some q e)

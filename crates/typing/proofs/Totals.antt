@@ -17,6 +17,7 @@ use Rattle.typing.specs.Order.{Compare}
 use Rattle.typing.specs.NormalForms.{TiesAreOne, joined_from, joined}
 use Rattle.typing.specs.Equality.{the_sum}
 
+-- the test of equal holds of equal alone
 pub equal_is : (r : Ordering) → is_eq r ≡ true → r ≡ Equal
 equal_is Less h = cc
 equal_is Equal h = refl
@@ -31,9 +32,11 @@ pub record IsMonoid (ok : ℤ → Bool) (plus : ℤ → ℤ → ℤ) : Type 0 wh
   pub assoc : (a b c : ℤ) → ok a ≡ true → ok b ≡ true → ok c ≡ true
       → plus (plus a b) c ≡ plus a (plus b c)
 
+-- each number is a weight
 abbrev pub any_number : ℤ → Bool
 any_number n = true
 
+-- sums of numbers are a monoid
 pub sum-IsMonoid : IsMonoid any_number the_sum
 sum-IsMonoid = record {
   zero_ok = refl;
@@ -160,6 +163,7 @@ module _ (ok : ℤ → Bool) (plus : ℤ → ℤ → ℤ) (m : IsMonoid ok plus)
     total-ok : (ws : List (Value × ℤ)) → all_ok ws ≡ true → ok (total plus e ws a) ≡ true
     total-ok ws h = ap ok (total-msum ws) ∙ msum-ok (map part ws) (parts-ok ws h)
 
+    -- the order of entries does not change the totals
     pub total-permutation : (us vs : List (Value × ℤ)) → IsPermutation us vs → all_ok us ≡ true
         → total plus e vs a ≡ total plus e us a
     total-permutation us vs s h = total-msum vs
@@ -222,6 +226,7 @@ module _ (ok : ℤ → Bool) (plus : ℤ → ℤ → ℤ) (m : IsMonoid ok plus)
               ∙ add (e w.0 a) (e k.0 a) (same refl) hw (total plus e ws a) o
           by false same hw first second o = ap (plus (part k)) second
 
+      -- joining entries keeps the totals
       pub total-joined : (ws : List (Value × ℤ)) → all_ok ws ≡ true
           → list_all good (map (λ w. w.0) ws) ≡ true
           → total plus e (joined c plus ws) a ≡ total plus e ws a

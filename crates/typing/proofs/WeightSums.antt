@@ -15,6 +15,7 @@ use Rattle.typing.specs.Bounds.{absolute_sum, are_positive, are_from_zero, joint
 use Rattle.typing.proofs.Tests.{right_congr, no_test-equivalence, all_from_each, weight_of-congr, weight_of-none}
 use Rattle.typing.proofs.Weights.{coarser_sums}
 
+-- the size of a sum is at most the sum of the sizes
 pub triangle : (a b : ℤ) → unsigned_abs (a +ℤ b) ≤ unsigned_abs a + unsigned_abs b
 triangle a b = omega (arith, ints)
 
@@ -66,6 +67,7 @@ module _ (e : Test) (is : IsEquivalence e) where
         own_more u us ws p.1 k.1,
       )
 
+  -- entries of which no two are equal are their own sums
   pub own : (us : List (Value × ℤ)) → AreApart us → AreOwn us us
   own [] h = tt
   own (u ∷ us) h = (own_head u us h.0, own_more u us us h.0 (own us h.1))

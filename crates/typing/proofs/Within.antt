@@ -83,6 +83,7 @@ module _ (m n : ℕ) (up : m ≤ n) where
       and_from (list_all (λ (c : Bool × ℤ). c.0) (tested n ws)) (nat_le (absolute_sum (tested n ws))
       n) (up_entries ys p.0) (up_sum ws p.1)
 
+  -- what is within a bound is within a greater one
   pub within_more : (v : Value) → is_within m v ≡ true → is_within n v ≡ true
   within_more = ind-Value GoesUp (λ x y is h.
       at_level n x ∙ subst (λ (z : Value-F Value). layer_within m z ≡ true

@@ -1,5 +1,5 @@
 use Rattle.std.proofs.Common.{ℕ, ◌<◌, List, get_or, length, refl, sym, ap, ◌∙◌, arith}
-use Rattle.typing.proofs.RelabelSteps.{got}
+use Rattle.std.proofs.lemmas.Option.{slice_get-get_or}
 use Rattle.quotient_writer.proofs.Classes.{passing_none, passing_old, passing_new}
 use Rattle.quotient_writer.proofs.block_list.first_of_each.Goals as goal
 use Rattle.quotient_writer.proofs.block_list.first_of_each.Goals.{then-labels-i+in_ok-push, else-labels-i}
@@ -16,11 +16,11 @@ loop-i-preserved c =
     elim c.if-labels-i.branch [
       | then-labels-i+in_ok-push w ↦
           rw (ap (λ l. l.items) w.firsts-is ∙ w.in_ok-push.ensures.items)
-          (passing_new labels i k c.loop-i.firsts.items (got labels i inside) refl inside
+          (passing_new labels i k c.loop-i.firsts.items (slice_get-get_or labels i 0 inside) refl inside
           c.loop-i.invariant (w.if-labels-i.true ∙ c.len.ensures ∙ c.loop-i.firsts.ok.0))
       | else-labels-i w ↦
           rw (ap (λ l. l.items) w.firsts-is) (passing_old labels i k c.loop-i.firsts.items
-          (got labels i inside) refl inside c.loop-i.invariant (λ e. w.if-labels-i.false (e
+          (slice_get-get_or labels i 0 inside) refl inside c.loop-i.invariant (λ e. w.if-labels-i.false (e
           ∙ sym c.loop-i.firsts.ok.0 ∙ sym c.len.ensures)))
     ]
 

@@ -1,6 +1,6 @@
 use Rattle.std.proofs.Common.{◌≡◌, ℕ, ◌<◌, ◌^◌, ◌++◌, true, List, [], ◌∷◌, Some, slice_get, get_or, length, refl, sym, ap, ◌∙◌, subst, arith}
 use Rattle.std.specs.Prelude.{if◌then◌else◌}
-use Rattle.std.proofs.lemmas.Option.{slice_get_read}
+use Rattle.std.proofs.lemmas.Option.{slice_get_read, slice_get-get_or}
 use Rattle.typing.specs.declared.value.Value.{Value}
 use Rattle.std.specs.List.{list_all}
 use Rattle.functor_terms.specs.Terms.{Nodes}
@@ -10,7 +10,6 @@ use Rattle.typing.specs.Order.{is_normal}
 use Rattle.functor_terms.proofs.NamesLemmas.{word_is_name}
 use Rattle.typing.specs.NormalForms.{IsRelabelledAt}
 use Rattle.typing.proofs.StableLaws.{element}
-use Rattle.typing.proofs.RelabelSteps.{got}
 use Rattle.typing.proofs.Within.{each_bounded}
 use Rattle.quotient_writer.proofs.Picks.{picking_none, picking_old, picking_new, name_is_new, picked_all, end-one_each, end-fitting, end-normal, end-in_range, end-kept}
 use Rattle.typing.proofs.KeptWeights.{form-weights, form-within}
@@ -33,7 +32,7 @@ loop-i-preserved c =
     let in_names : i < length names = omega (arith, c.len-states.ensures) in
     let in_values : i < length values = omega (arith, c.args.c.now.one_each, in_names) in
     let in_labels : i < length c.args.labels.now = omega (arith, c.requires.one_each, in_names) in
-    let label_at : slice_get c.args.labels.now i ≡ Some k = got c.args.labels.now i in_labels in
+    let label_at : slice_get c.args.labels.now i ≡ Some k = slice_get-get_or c.args.labels.now i 0 in_labels in
     elim c.if-labels-i.branch [
       | then-labels-i+in_ok-add+in_ok-relabel+in_ok-push w ↦
           let v : Value = w.index.result.now in

@@ -5,6 +5,7 @@ use Rattle.std.specs.List.{list_all, AllZip}
 use Rattle.std.proofs.lemmas.Grind.{common_steps}
 use Rattle.std.proofs.lemmas.Result.{IfOk-weaker}
 use Rattle.std.proofs.lemmas.List.Elements.{all_zip_more}
+use Rattle.std.proofs.lemmas.Option.{slice_get-get_or}
 use Rattle.functor_terms.specs.Terms.{children_at}
 use Rattle.functor_terms.specs.Lists.{Zip3}
 use Rattle.typing.specs.declared.value.Value.{Value, the_lemmas}
@@ -163,7 +164,7 @@ relabel_child-relabel_at-requires t c =
     ≡ Some (get_or c.children-children.result.now c.args.k 0) =
     subst (λ (qs : List ℕ). slice_get (children_at c.args.term.now c.args.p) c.args.k
     ≡ Some (get_or qs c.args.k 0)) (sym c.children-children.ensures.children)
-    (RelabelSteps.got (children_at c.args.term.now c.args.p) c.args.k (child_exists c.args.term.now
+    (slice_get-get_or (children_at c.args.term.now c.args.p) c.args.k 0 (child_exists c.args.term.now
     (children_at c.args.term.now c.args.p) c.args.k c.args.value.now
     (ready_check (length c.args.labels.now) (child_check c.args.term.now c.args.p c.args.k)
     c.args.value.now c.requires.ready))) in
@@ -186,7 +187,7 @@ relabel_child-returns t c =
     ≡ Some (get_or c.children-children.result.now c.args.k 0) =
     subst (λ (qs : List ℕ). slice_get (children_at c.args.term.now c.args.p) c.args.k
     ≡ Some (get_or qs c.args.k 0)) (sym c.children-children.ensures.children)
-    (RelabelSteps.got (children_at c.args.term.now c.args.p) c.args.k (child_exists c.args.term.now
+    (slice_get-get_or (children_at c.args.term.now c.args.p) c.args.k 0 (child_exists c.args.term.now
     (children_at c.args.term.now c.args.p) c.args.k c.args.value.now
     (ready_check (length c.args.labels.now) (child_check c.args.term.now c.args.p c.args.k)
     c.args.value.now c.requires.ready))) in
